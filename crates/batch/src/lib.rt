@@ -1,0 +1,4 @@
+//! The packets of one period: gathered first, then cleared.
+pub mod clearing;
+pub mod gathering;
+pub mod slots;

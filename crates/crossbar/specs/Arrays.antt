@@ -1,0 +1,22 @@
+-- How arrays hold counts, loads and settings.
+use mathlib.Core.Path.{_≡_}
+use mathlib.Core.Bool.{cond, _&&_}
+use mathlib.Core.List.{List}
+use Prim.Native.Nat.{ℕ, _+_, _*_}
+use lib.Dec.{ltb}
+use lib.ListN.{getD}
+use Rattle.crossbar.specs.Loads.{Counts}
+use Rattle.std.specs.declared.option.Option.{Option}
+use Rattle.std.specs.declared.option.Option.the-variants.{Some, None}
+
+-- counts kept in rows of sixteen, a row an input; nothing waits at ports from n on
+unfoldable pub grid : ℕ → List ℕ → Counts
+grid n xs i j = cond (ltb i n && ltb j n) (getD xs (i * 16 + j) 0) 0
+
+-- an array holds a load for each port of one side
+abbrev pub Holds : List ℕ → (ℕ → ℕ) → Type 0
+Holds xs f = (k : ℕ) → getD xs k 0 ≡ f k
+
+-- where the first array joins j to i, the second joins i to j
+abbrev pub Mirrors : List (Option ℕ) → List (Option ℕ) → Type 0
+Mirrors xs ys = (i j : ℕ) → getD xs j None ≡ Some i → getD ys i None ≡ Some j

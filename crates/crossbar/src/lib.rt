@@ -1,0 +1,5 @@
+//! Ports, demands and settings of a crossbar, and the laws of clearing a demand.
+pub mod demand;
+pub mod port;
+pub mod ports;
+pub mod setting;

@@ -1,0 +1,2 @@
+//! The numbers and documents that cameras and planners exchange.
+pub mod period;

@@ -1,0 +1,51 @@
+//! What every call answers: done, with a count, or refused, for a reason and at a place.
+ghost use Rattle.reply.specs.Answers.{answer, code, done, refused};
+ghost use mathlib.Core.Path.{_≡_};
+use place::Place;
+use place::PlaceDebug;
+use place::PlacePartialEq;
+use reason::Reason;
+use reason::ReasonDebug;
+use reason::ReasonPartialEq;
+
+pub mod place;
+pub mod reason;
+
+/// The answer of a call.
+#[derive(Clone, Copy, PartialEq, Eq, Debug)]
+pub enum Reply {
+    /// The call was done. Its place says how many; what it counts depends on the call.
+    Done(Place),
+    /// The call was refused and changed nothing.
+    Refused(Reason, Place),
+}
+
+impl Reply {
+    /// Done, with `count` as its place.
+    pub fn done(count: u16) -> Reply
+        ensures { λ r. ⌜ answer r ≡ done count ⌝ }
+    {
+        Reply::Done(Place::from_count(count))
+    }
+
+    /// Refused for `reason` at `place`.
+    pub fn refused(reason: Reason, place: u16) -> Reply
+        ensures { λ r. ⌜ answer r ≡ refused reason place ⌝ }
+    {
+        Reply::Refused(reason, Place::from_count(place))
+    }
+
+    /// The 32 bits of the reply: layer 4, number 8, place 20, most significant first.
+    pub fn code(self) -> u32
+        ensures { λ r. ⌜ r ≡ code (answer self) ⌝ }
+    {
+        match self {
+            Reply::Done(place) => place.value(),
+            Reply::Refused(reason, place) => {
+                let layer = u32::from(reason.layer() as u8);
+                let number = u32::from(reason.number());
+                (layer << 28) + (number << 20) + place.value()
+            }
+        }
+    }
+}
