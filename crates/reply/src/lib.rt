@@ -1,5 +1,5 @@
 //! What every call answers: done, with a count, or refused, for a reason and at a place.
-ghost use Rattle.reply.specs.Answers.{answer, code, done, refused};
+ghost use Rattle.reply.specs.Answers.{answer, code, done, place-of, reason-of, refused};
 ghost use mathlib.Core.Path.{_≡_};
 use place::Place;
 use place::PlaceDebug;
@@ -33,6 +33,26 @@ impl Reply {
         ensures { λ r. ⌜ answer r ≡ refused reason place ⌝ }
     {
         Reply::Refused(reason, Place::from_count(place))
+    }
+
+    /// Why the call was refused; none where it was done.
+    pub fn reason(self) -> Option<Reason>
+        ensures { λ r. ⌜ r ≡ reason-of (answer self) ⌝ }
+    {
+        match self {
+            Reply::Done(_) => None,
+            Reply::Refused(reason, _) => Some(reason),
+        }
+    }
+
+    /// How many a done call counts, or where a call was refused.
+    pub fn place(self) -> u32
+        ensures { λ r. ⌜ r ≡ place-of (answer self) ⌝ }
+    {
+        match self {
+            Reply::Done(place) => place.value(),
+            Reply::Refused(_, place) => place.value(),
+        }
     }
 
     /// The 32 bits of the reply: layer 4, number 8, place 20, most significant first.
