@@ -2,3 +2,5 @@
 pub mod clearing;
 pub mod gathering;
 pub mod slots;
+#[cfg(test)]
+mod tests;

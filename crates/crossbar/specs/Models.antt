@@ -35,7 +35,7 @@ largest-of d = largest-load (size d) (waiting d)
 abbrev pub has-pair : Demand → Pair → Bool
 has-pair d p = ltb (p .input) (size d) && ltb (p .output) (size d)
 
--- there is room for one packet more: neither port of the pair has its full load
+-- there is room for one packet more: the pair is one of the n × n, and neither of its ports has its full load
 abbrev pub has-room : ℕ → Demand → Pair → Bool
 has-room bound d p = has-pair d p && ltb (load-of d (Input (p .input))) bound && ltb (load-of d (Output (p .output))) bound
 
@@ -55,7 +55,8 @@ joinable s p =
 abbrev pub given-by : Pairs → List Pair
 given-by p = pairs-below (input-at (p .setting .now)) (p .output)
 
--- one call of that iterator: none where every pair has been given, else the next one in order
+-- one call of that iterator: the next pair in order, or none where every pair has been given, and then it stays so
 abbrev pub Next-pair : Pairs → Option Pair → Pairs → Type 0
 Next-pair p r q =
-    (q .setting .now ≡ p .setting .now) × Cases r (given-by p ≡ pairs-below (input-at (p .setting .now)) 16) (λ x. given-by q ≡ given-by p ++ x ∷ [])
+    (q .setting .now ≡ p .setting .now)
+    × Cases r ((given-by p ≡ pairs-below (input-at (p .setting .now)) 16) × (given-by q ≡ given-by p)) (λ x. given-by q ≡ given-by p ++ x ∷ [])

@@ -3,3 +3,5 @@ pub mod demand;
 pub mod port;
 pub mod ports;
 pub mod setting;
+#[cfg(test)]
+mod tests;

@@ -1,5 +1,6 @@
 //! What every call answers: done, with a count, or refused, for a reason and at a place.
 ghost use Rattle.reply.specs.Answers.{answer, code, done, place-of, reason-of, refused};
+ghost use Rattle.reply.specs.declared.Reply.{Reply};
 ghost use mathlib.Core.Path.{_≡_};
 use place::Place;
 use place::PlaceDebug;
@@ -10,6 +11,8 @@ use reason::ReasonPartialEq;
 
 pub mod place;
 pub mod reason;
+#[cfg(test)]
+mod tests;
 
 /// The answer of a call.
 #[derive(Clone, Copy, PartialEq, Eq, Debug)]
@@ -55,9 +58,10 @@ impl Reply {
         }
     }
 
-    /// The 32 bits of the reply: layer 4, number 8, place 20, most significant first.
+    /// The 32 bits of the reply: layer 4, number 8, place 20, most significant first. No other reply has them.
     pub fn code(self) -> u32
-        ensures { λ r. ⌜ r ≡ code (answer self) ⌝ }
+        ensures value { λ r. ⌜ r ≡ code (answer self) ⌝ }
+        ensures alone { λ r. ⌜ ((other : Reply) → code (answer other) ≡ r → answer other ≡ answer self) ⌝ }
     {
         match self {
             Reply::Done(place) => place.value(),

@@ -27,10 +27,17 @@ impl Gathering {
         let Some(slots) = Slots::new(slots) else {
             return Reply::refused(Reason::OutOfRange, 0);
         };
-        let demand = Demand::empty(ports);
-        let batch = Some(Gathering { slots, demand });
+        let batch = Some(Gathering::empty(ports, slots));
         *place = batch;
         Reply::done(0)
+    }
+
+    /// A batch in which nothing is gathered yet.
+    fn empty(ports: Ports, slots: Slots) -> Gathering
+        ensures { λ r. ⌜ Empty (ports .count) (slots .count) r ⌝ }
+    {
+        let demand = Demand::empty(ports);
+        Gathering { slots, demand }
     }
 
     /// The slots of the period.
@@ -103,10 +110,7 @@ impl Gathering {
         ensures closed { λ r. ⌜ Closed self (r .0) ⌝ }
         ensures empty { λ r. ⌜ Empty (ports-of self) (slots-of self) (r .1) ⌝ }
     {
-        let slots = self.slots;
-        let ports = self.demand.ports();
-        let clearing = self.close();
-        let demand = Demand::empty(ports);
-        (clearing, Gathering { slots, demand })
+        let next = Gathering::empty(self.demand.ports(), self.slots);
+        (self.close(), next)
     }
 }

@@ -41,11 +41,14 @@ returns c =
     let k = c .loop-output .output in
     let same = c .loop-output .inv .0 in
     let past : 16 ≤ k = omega arith in
-    let all : k ≡ 16 + (k - 16) = omega arith in
+    let far : k ≡ 16 + (k - 16) = omega arith in
+    let all : given-by p ≡ pairs-below s 16 =
+    sym (c .loop-output .inv .1) ∙ ap (pairs-below s) far ∙ pairs-past s 16 (λ j h. getD-past (p .setting .now .inputs) j None (omega (arith, p .setting .now .sized .0))) (k - 16)
+    in
     record {
       steps = (
         ap (λ (q : Pairs). q .setting .now) same,
-        sym (c .loop-output .inv .1) ∙ ap (pairs-below s) all ∙ pairs-past s 16 (λ j h. getD-past (p .setting .now .inputs) j None (omega (arith, p .setting .now .sized .0))) (k - 16),
+        (all, ap (λ (q : Pairs). pairs-below (input-at (q .setting .now)) 16) same ∙ sym all),
       );
       goes = record { on = λ _. tt };
     }
