@@ -1,9 +1,9 @@
 //! One line of the input, taken apart.
 ghost use Prim.Native.Nat.{_<_};
 ghost use Rattle.std.specs.Vec.{made};
-use crate::readout::Readout;
 use crossbar::port::MOST_PORTS;
 use crossbar::port::Pair;
+use readout::Readout;
 use std::str::FromStr;
 use std::str::SplitWhitespace;
 

@@ -4,7 +4,6 @@ use std::io;
 
 mod entry;
 mod plan;
-mod readout;
 mod report;
 mod words;
 

@@ -2,8 +2,8 @@
 use crate::entry;
 use crate::entry::Entry;
 use crate::entry::Fault;
-use crate::readout::Readout;
 use document::period::Line;
+use readout::Readout;
 use std::alloc::AllocError;
 use std::alloc::Global;
 

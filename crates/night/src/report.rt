@@ -1,13 +1,12 @@
 //! What the program prints.
 use crate::plan::Numbered;
 use crate::plan::Plan;
-use crate::readout;
-use crate::readout::Readout;
 use crate::words;
 use crate::words::FaultDisplay;
 use batch::gathering::Gathering;
 use crossbar::demand::Demand;
 use crossbar::port::Port;
+use readout::Readout;
 use reply::Reply;
 use std::io;
 

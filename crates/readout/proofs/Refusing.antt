@@ -8,8 +8,8 @@ use Rattle.batch.specs.Models.{gathered, refusal-in}
 use Rattle.batch.specs.Rules.{taken-unless}
 use Rattle.batch.specs.declared.gathering.Gathering.{Gathering}
 use Rattle.crossbar.specs.Loads.{one-more}
-use Rattle.night.specs.Readouts.{Grown, Read-out}
-use Rattle.night.specs.declared.readout.Readout.{Readout}
+use Rattle.readout.specs.Readouts.{Grown, Read-out}
+use Rattle.readout.specs.declared.Readout.{Readout}
 use Rattle.reply.specs.Answers.{Answer, answer, done, refused}
 use Rattle.reply.specs.declared.Reply.{Reply}
 use Rattle.reply.specs.declared.reason.Reason.{Reason}

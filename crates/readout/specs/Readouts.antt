@@ -5,8 +5,8 @@ use Rattle.batch.specs.Models.{gathered, refusal-in}
 use Rattle.batch.specs.Rules.{taken-unless}
 use Rattle.batch.specs.declared.gathering.Gathering.{Gathering}
 use Rattle.crossbar.specs.Loads.{Counts, single}
-use Rattle.night.specs.declared.readout.Readout.{Readout}
-use Rattle.night.specs.declared.readout.Taken.{Taken}
+use Rattle.readout.specs.declared.Readout.{Readout}
+use Rattle.readout.specs.declared.Taken.{Taken}
 use Rattle.reply.specs.Answers.{answer}
 use Rattle.std.specs.Options.{Cases}
 use Rattle.std.specs.declared.option.Option.the-variants.{Some}

@@ -1,5 +1,5 @@
 //! Gathering the packets of a camera readout.
-ghost use Rattle.night.specs.Readouts.{Read-out};
+ghost use Rattle.readout.specs.Readouts.{Read-out};
 use batch::gathering::Gathering;
 use crossbar::port::Pair;
 use reply::Reply;

@@ -1,6 +1,6 @@
 use mathlib.Core.Path.{ap}
-use Rattle.night.proofs.Refusing.{stopped}
-use Rattle.night.proofs.readout.gather.Needs as need
+use Rattle.readout.proofs.Refusing.{stopped}
+use Rattle.readout.proofs.gather.Needs as need
 use Rattle.reply.specs.Answers.{answer}
 
 pub returns-in-Refused : need.returns-in-Refused
