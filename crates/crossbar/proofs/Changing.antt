@@ -5,17 +5,19 @@ use mathlib.Core.Logic.{_⊎_, inl, inr}
 use mathlib.Core.List.{List}
 use Prim.Native.Nat.{ℕ, _+_, _-_, _*_, _<_, _≤_}
 use native.Mathlib.Omega.{arith}
-use lib.Dec.{eqb}
+use lib.Dec.{eqb, ltb}
 use lib.ListN.{length, getD, set}
 use Rattle.std.proofs.shelf.Lists.{length-set}
 use Rattle.std.proofs.shelf.Tests.{and-parts, cases-bool, eq-eqb, eqb-true, ne-eqb}
-use Rattle.crossbar.specs.Arrays.{grid, Holds}
-use Rattle.crossbar.specs.Loads.{Counts, index, load, largest-load, one-less, one-more, single}
+use Rattle.crossbar.specs.Arrays.{grid, Holds, Marks, no-ports}
+use Rattle.crossbar.specs.Loads.{Counts, index, load, largest-load, one-less, one-more, single, turned}
 use Rattle.crossbar.specs.declared.demand.Demand.{Demand}
+use Rattle.mask.specs.Bits.{holds}
+use Rattle.mask.specs.declared.Mask.{Mask}
 use Rattle.crossbar.specs.declared.port.Port.{Port}
 use Rattle.crossbar.specs.declared.port.Port.the-variants.{Input, Output}
 use Rattle.crossbar.proofs.Loads.{count-le, load-le, load-minus-exact, load-plus, load-single, loads-le, more-within, touches}
-use Rattle.crossbar.proofs.Places.{grid-change, grid-inside, holds-set}
+use Rattle.crossbar.proofs.Places.{grid-change, grid-here, grid-inside, grid-other, holds-set, marks-set}
 
 touches-here : (x y : ℕ) → x ≡ y → cond {A = ℕ} (eqb x y) 1 0 ≡ 1
 touches-here x y e = ap (λ t. cond {A = ℕ} t 1 0) (eq-eqb x y e)
@@ -119,3 +121,28 @@ module _ (n : ℕ) (cs ins outs : List ℕ) (s : Sound n cs ins outs) (a b : ℕ
               loads-le n (grid n (set cs (a * 16 + b) (getD cs (a * 16 + b) 0 - 1))) 1024
               (λ p l. omega (arith, load-less p, load-le n (grid n cs) p l, s .bounded));
         }
+
+-- what a demand's invariant asks of its masks
+pub record Masked (n : ℕ) (counts : List ℕ) (rows columns : List Mask) : Type 0 where
+  pub sized : (length rows ≡ 16) × (length columns ≡ 16)
+  pub row-marks : Marks rows (grid n counts)
+  pub column-marks : Marks columns (turned (grid n counts))
+
+pub masked-of : (d : Demand) → Masked (d .ports .count) (d .counts) (d .rows) (d .columns)
+masked-of d = record { sized = d .masked; row-marks = d .«row_masks»; column-marks = d .«column_masks» }
+
+-- one count written, with the two masks that tell whether something waits there
+pub masked-set : (n : ℕ) (cs : List ℕ) (rows columns : List Mask) → Masked n cs rows columns → (a b v : ℕ) → n ≤ 16 → length cs ≡ 256 → a < n → b < n → (waits : Bool) → waits ≡ ltb 0 v → (m m′ : Mask) → ((k : ℕ) → holds m k ≡ cond (eqb k b && ltb k 16) waits (holds (getD rows a no-ports) k)) → ((k : ℕ) → holds m′ k ≡ cond (eqb k a && ltb k 16) waits (holds (getD columns b no-ports) k)) → Masked n (set cs (a * 16 + b) v) (set rows a m) (set columns b m′)
+masked-set n cs rows columns s a b v few long h k waits told m m′ new new′ =
+    record {
+      sized = (length-set rows a m ∙ s .sized .0, length-set columns b m′ ∙ s .sized .1);
+      row-marks =
+          marks-set rows (grid n cs) (grid n (set cs (a * 16 + b) v)) a b m (omega (arith, s .sized .0)) (omega arith) (s .row-marks)
+          (λ x. new x ∙ ap (λ t. cond (eqb x b && ltb x 16) t (holds (getD rows a no-ports) x)) there) (λ i j ne. grid-other n cs a b few long h k v i j ne);
+      column-marks =
+          marks-set columns (turned (grid n cs)) (turned (grid n (set cs (a * 16 + b) v))) b a m′ (omega (arith, s .sized .1)) (omega arith) (s .column-marks)
+          (λ x. new′ x ∙ ap (λ t. cond (eqb x a && ltb x 16) t (holds (getD columns b no-ports) x)) there) (λ i j ne. grid-other n cs a b few long h k v j i (λ e. ne (e .1, e .0)));
+    }
+  where
+    there : waits ≡ ltb 0 (grid n (set cs (a * 16 + b) v) a b)
+    there = told ∙ ap (ltb 0) (sym (grid-here n cs a b few long h k v a b refl refl))

@@ -10,9 +10,12 @@ use lib.ListN.{length, getD, set, replicate}
 use Rattle.std.specs.declared.option.Option.{Option}
 use Rattle.std.specs.declared.option.Option.the-variants.{Some, None}
 use Rattle.std.proofs.shelf.Lists.{getD-set-same, getD-set-other}
-use Rattle.std.proofs.shelf.Tests.{and-parts, cases-bool, cases-eq, cases-lt, eqb-true, eq-eqb, ne-eqb, lt-ltb, le-ltb}
-use Rattle.crossbar.specs.Arrays.{grid, Holds, Mirrors}
-use Rattle.crossbar.specs.Loads.{nothing, single}
+use Rattle.std.proofs.shelf.Tests.{and-from, and-left, and-parts, cases-bool, cases-eq, cases-lt, eqb-true, eq-eqb, ne-eqb, lt-ltb, le-ltb}
+use Rattle.crossbar.specs.Arrays.{grid, Holds, Marks, Mirrors, no-ports}
+use Rattle.crossbar.specs.Loads.{Counts, nothing, single}
+use Rattle.mask.proofs.Digits.{zero-bit}
+use Rattle.mask.specs.Bits.{holds}
+use Rattle.mask.specs.declared.Mask.{Mask}
 
 pub same-everywhere : {A : Type 0} (n : ℕ) (a : A) (i : ℕ) → getD (replicate n a) i a ≡ a
 same-everywhere zero a i = refl
@@ -63,40 +66,42 @@ grid-outside n xs i j (inr h) = ap (λ t. cond (ltb i n && t) (getD xs (i * 16 +
     neither false = refl
 
 module _ (n : ℕ) (xs : List ℕ) (a b : ℕ) (few : n ≤ 16) (long : length xs ≡ 256) (h : a < n) (k : b < n) where
+  -- the written count
+  pub grid-here : (v i j : ℕ) → i ≡ a → j ≡ b → grid n (set xs (a * 16 + b) v) i j ≡ v
+  grid-here v i j p q =
+      ap (λ x. grid n (set xs (a * 16 + b) v) x j) p
+      ∙ ap (λ x. grid n (set xs (a * 16 + b) v) a x) q
+      ∙ grid-inside n (set xs (a * 16 + b) v) a b h k
+      ∙ getD-set-same xs (a * 16 + b) v 0 (omega arith)
+
+  -- every other one
+  pub grid-other : (v i j : ℕ) → ((i ≡ a) × (j ≡ b) → ⊥) → grid n (set xs (a * 16 + b) v) i j ≡ grid n xs i j
+  grid-other v i j ne =
+      elim (cases-lt i n) [
+        | inl l ↦
+            elim (cases-lt j n) [
+              | inl m ↦
+                  grid-inside n (set xs (a * 16 + b) v) i j l m
+                  ∙ getD-set-other xs (a * 16 + b) (i * 16 + j) v 0 (λ e. ne (omega arith, omega arith))
+                  ∙ sym (grid-inside n xs i j l m)
+              | inr m ↦ grid-outside n (set xs (a * 16 + b) v) i j (inr m) ∙ sym (grid-outside n xs i j (inr m))
+            ]
+        | inr l ↦ grid-outside n (set xs (a * 16 + b) v) i j (inl l) ∙ sym (grid-outside n xs i j (inl l))
+      ]
+
   -- a written count, as a function of input and output
   pub grid-set : (v : ℕ) → grid n (set xs (a * 16 + b) v) ≡ (λ i j. cond (eqb i a && eqb j b) v (grid n xs i j))
   grid-set v = fun-ext (λ i. fun-ext (λ j. at i j))
     where
-      here : (i j : ℕ) → i ≡ a → j ≡ b → grid n (set xs (a * 16 + b) v) i j ≡ v
-      here i j p q =
-          ap (λ x. grid n (set xs (a * 16 + b) v) x j) p
-          ∙ ap (λ x. grid n (set xs (a * 16 + b) v) a x) q
-          ∙ grid-inside n (set xs (a * 16 + b) v) a b h k
-          ∙ getD-set-same xs (a * 16 + b) v 0 (omega arith)
-
-      elsewhere : (i j : ℕ) → ((i ≡ a) × (j ≡ b) → ⊥) → grid n (set xs (a * 16 + b) v) i j ≡ grid n xs i j
-      elsewhere i j ne =
-          elim (cases-lt i n) [
-            | inl l ↦
-                elim (cases-lt j n) [
-                  | inl m ↦
-                      grid-inside n (set xs (a * 16 + b) v) i j l m
-                      ∙ getD-set-other xs (a * 16 + b) (i * 16 + j) v 0 (λ e. ne (omega arith, omega arith))
-                      ∙ sym (grid-inside n xs i j l m)
-                  | inr m ↦ grid-outside n (set xs (a * 16 + b) v) i j (inr m) ∙ sym (grid-outside n xs i j (inr m))
-                ]
-            | inr l ↦ grid-outside n (set xs (a * 16 + b) v) i j (inl l) ∙ sym (grid-outside n xs i j (inl l))
-          ]
-
       at : (i j : ℕ) → grid n (set xs (a * 16 + b) v) i j ≡ cond (eqb i a && eqb j b) v (grid n xs i j)
       at i j =
           elim (cases-eq i a) [
             | inl p ↦
                 elim (cases-eq j b) [
-                  | inl q ↦ here i j p q ∙ sym (ap (λ t. cond (t && eqb j b) v (grid n xs i j)) (eq-eqb i a p) ∙ ap (λ t. cond t v (grid n xs i j)) (eq-eqb j b q))
-                  | inr q ↦ elsewhere i j (λ e. q (e .1)) ∙ sym (ap (λ t. cond (t && eqb j b) v (grid n xs i j)) (eq-eqb i a p) ∙ ap (λ t. cond t v (grid n xs i j)) (ne-eqb j b q))
+                  | inl q ↦ grid-here v i j p q ∙ sym (ap (λ t. cond (t && eqb j b) v (grid n xs i j)) (eq-eqb i a p) ∙ ap (λ t. cond t v (grid n xs i j)) (eq-eqb j b q))
+                  | inr q ↦ grid-other v i j (λ e. q (e .1)) ∙ sym (ap (λ t. cond (t && eqb j b) v (grid n xs i j)) (eq-eqb i a p) ∙ ap (λ t. cond t v (grid n xs i j)) (ne-eqb j b q))
                 ]
-            | inr p ↦ elsewhere i j (λ e. p (e .0)) ∙ sym (ap (λ t. cond (t && eqb j b) v (grid n xs i j)) (ne-eqb i a p))
+            | inr p ↦ grid-other v i j (λ e. p (e .0)) ∙ sym (ap (λ t. cond (t && eqb j b) v (grid n xs i j)) (ne-eqb i a p))
           ]
 
   -- one count raised or lowered by one: f is the sum or the difference
@@ -138,3 +143,38 @@ holds-set xs f g a v h old here elsewhere k =
       | inl e ↦ ap (λ x. getD (set xs a v) x 0) e ∙ getD-set-same xs a v 0 h ∙ here ∙ sym (ap g e)
       | inr e ↦ getD-set-other xs a k v 0 e ∙ old k ∙ sym (elsewhere k e)
     ]
+
+-- ---- arrays of masks
+
+-- one mask written, where only one count of its row changes
+pub marks-set : (ms : List Mask) (d e : Counts) (a b : ℕ) (m : Mask) → a < length ms → b < 16 → Marks ms d → ((k : ℕ) → holds m k ≡ cond (eqb k b && ltb k 16) (ltb 0 (e a b)) (holds (getD ms a no-ports) k)) → ((i j : ℕ) → ((i ≡ a) × (j ≡ b) → ⊥) → e i j ≡ d i j) → Marks (set ms a m) e
+marks-set ms d e a b m h small old new other i j =
+    elim (cases-eq i a) [
+      | inl p ↦
+          let at-a : holds (getD (set ms a m) i no-ports) j ≡ holds m j = ap (λ x. holds x j) (ap (λ x. getD (set ms a m) x no-ports) p ∙ getD-set-same ms a m no-ports h) in
+          elim (cases-eq j b) [
+            | inl q ↦
+                at-a
+                ∙ new j
+                ∙ ap (λ t. cond t (ltb 0 (e a b)) (holds (getD ms a no-ports) j)) (and-from (eqb j b) (ltb j 16) (eq-eqb j b q) (lt-ltb j 16 (omega arith)))
+                ∙ ap (λ x. ltb 0 (e x b)) (sym p)
+                ∙ ap (λ x. ltb 0 (e i x)) (sym q)
+            | inr q ↦
+                at-a
+                ∙ new j
+                ∙ ap (λ t. cond t (ltb 0 (e a b)) (holds (getD ms a no-ports) j)) (and-left (eqb j b) (ltb j 16) (ne-eqb j b q))
+                ∙ old a j
+                ∙ ap (ltb 0) (sym (other a j (λ x. q (x .1))))
+                ∙ ap (λ x. ltb 0 (e x j)) (sym p)
+          ]
+      | inr p ↦ ap (λ x. holds x j) (getD-set-other ms a i m no-ports p) ∙ old i j ∙ ap (ltb 0) (sym (other i j (λ x. p (x .0))))
+    ]
+
+-- masks with no port mark a demand in which nothing waits
+pub marks-nothing : (k : ℕ) (m : Mask) (d : Counts) → ((j : ℕ) → holds m j ≡ false) → ((i j : ℕ) → d i j ≡ 0) → Marks (replicate k m) d
+marks-nothing k m d none nothing-waits i j = all k i ∙ ap (ltb 0) (sym (nothing-waits i j))
+  where
+    all : (k i : ℕ) → holds (getD (replicate k m) i no-ports) j ≡ false
+    all zero i = zero-bit j
+    all (suc k) zero = none j
+    all (suc k) (suc i) = all k i

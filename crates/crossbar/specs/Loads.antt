@@ -26,6 +26,10 @@ one-more a b d i j = d i j + single a b i j
 abbrev pub one-less : ℕ → ℕ → Counts → Counts
 one-less a b d i j = d i j - single a b i j
 
+-- the same packets with inputs and outputs exchanged
+abbrev pub turned : Counts → Counts
+turned d j i = d i j
+
 -- the load of a port: all that waits at an input, or for an output
 abbrev pub load : ℕ → Counts → Port → ℕ
 load n d (Input i) = total n (λ j. d i j)

@@ -3,5 +3,6 @@ pub mod demand;
 pub mod port;
 pub mod ports;
 pub mod setting;
+pub mod side;
 #[cfg(test)]
 mod tests;

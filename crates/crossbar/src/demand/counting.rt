@@ -13,6 +13,7 @@ use crate::port::MOST_PORTS;
 use crate::port::Pair;
 use crate::port::Port;
 use crate::ports::Ports;
+use mask::Mask;
 
 impl Demand {
     /// A demand in which nothing waits.
@@ -20,11 +21,14 @@ impl Demand {
         ensures ports { λ r. ⌜ r .ports ≡ ports ⌝ }
         ensures empty { λ r. ⌜ waiting r ≡ nothing ⌝ }
     {
+        let none = Mask::empty();
         Demand {
             ports,
             counts: [0; 256],
             inputs: [0; 16],
             outputs: [0; 16],
+            rows: [none; 16],
+            columns: [none; 16],
         }
     }
 
@@ -105,6 +109,9 @@ impl Demand {
         self.counts[cell_of(pair)] += 1;
         self.inputs[pair.input as usize] += 1;
         self.outputs[pair.output as usize] += 1;
+        self.rows[pair.input as usize] = self.rows[pair.input as usize].set(pair.output, true);
+        self.columns[pair.output as usize] = self.columns[pair.output as usize]
+            .set(pair.input, true);
         true
     }
 }

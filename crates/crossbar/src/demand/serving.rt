@@ -26,9 +26,13 @@ impl Demand {
         if self.counts[cell] == 0 {
             return false;
         }
-        self.counts[cell] -= 1;
+        let left = self.counts[cell] - 1;
+        self.counts[cell] = left;
         self.inputs[pair.input as usize] -= 1;
         self.outputs[pair.output as usize] -= 1;
+        self.rows[pair.input as usize] = self.rows[pair.input as usize].set(pair.output, left > 0);
+        self.columns[pair.output as usize] = self.columns[pair.output as usize]
+            .set(pair.input, left > 0);
         true
     }
 

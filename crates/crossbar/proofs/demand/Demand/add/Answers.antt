@@ -1,9 +1,11 @@
 use mathlib.Core.Path.{_≡_, refl, sym, _∙_, ap, subst}
-use Prim.Native.Nat.{_+_, _<_, _≤_}
+use mathlib.Core.Bool.{true}
+use Prim.Native.Nat.{_+_, _*_}
 use native.Mathlib.Omega.{arith}
 use lib.ListN.{getD, set}
+use Rattle.std.proofs.shelf.Tests.{lt-ltb}
 use Rattle.crossbar.specs.Arrays.{grid}
-use Rattle.crossbar.proofs.Changing.{Sound, cell-le, grid-more, sound-more, sound-of}
+use Rattle.crossbar.proofs.Changing.{Masked, Sound, cell-le, grid-more, masked-of, masked-set, sound-more, sound-of}
 use Rattle.crossbar.proofs.Room.{room-from-test}
 use Rattle.crossbar.proofs.demand.Demand.add.Needs as need
 
@@ -32,7 +34,12 @@ ghost-self c =
     (omega (arith, d .«input_loads» (p .input), r .at-input))
     (omega (arith, d .«output_loads» (p .output), r .at-output)))
     in
-    (sound .sized, (sound .in-loads, (sound .out-loads, (sound .bounded, tt))))
+    let masks : Masked (d .ports .count) (set (d .counts) (c .cell-of .result) (getD (d .counts) (c .cell-of .result) 0 + 1)) (set (d .rows) (p .input) (c .set .result)) (set (d .columns) (p .output) (c .set-2 .result)) =
+    subst (λ k. Masked (d .ports .count) (set (d .counts) k (getD (d .counts) k 0 + 1)) (set (d .rows) (p .input) (c .set .result)) (set (d .columns) (p .output) (c .set-2 .result))) (sym (c .cell-of .ensures))
+    (masked-set (d .ports .count) (d .counts) (d .rows) (d .columns) (masked-of d) (p .input) (p .output) _ (d .ports .few) (d .sized .0) (r .input) (r .output) true
+    (sym (lt-ltb 0 (getD (d .counts) (p .input * 16 + p .output) 0 + 1) (omega arith))) (c .set .result) (c .set-2 .result) (c .set .ensures) (c .set-2 .ensures))
+    in
+    (sound .sized, (masks .sized, (sound .in-loads, (sound .out-loads, (masks .row-marks, (masks .column-marks, (sound .bounded, tt)))))))
 
 pub returns : need.returns
 returns c =

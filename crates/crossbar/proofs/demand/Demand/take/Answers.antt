@@ -1,17 +1,20 @@
 use mathlib.Core.Path.{_≡_, refl, sym, _∙_, ap, subst}
-use Prim.Native.Nat.{_+_, _-_, _*_, _≤_}
+use mathlib.Core.Bool.{Bool, _&&_, cond}
+use Prim.Native.Nat.{ℕ, _+_, _-_, _*_, _≤_}
 use native.Mathlib.Omega.{arith}
+use lib.Dec.{eqb, ltb}
 use lib.ListN.{getD, set}
 use Rattle.std.proofs.shelf.Tests.{le-ltb, lt-ltb}
-use Rattle.crossbar.specs.Arrays.{grid}
+use Rattle.crossbar.specs.Arrays.{grid, no-ports}
 use Rattle.crossbar.specs.Loads.{packets, single}
 use Rattle.crossbar.specs.Models.{waiting}
-use Rattle.crossbar.proofs.Changing.{Sound, cell-le, cell-le-out, grid-less, single-le, sound-less, sound-of}
+use Rattle.crossbar.proofs.Changing.{Masked, Sound, cell-le, cell-le-out, grid-less, masked-of, masked-set, single-le, sound-less, sound-of}
 use Rattle.crossbar.proofs.Loads.{packets-minus, packets-single}
 use Rattle.crossbar.proofs.Places.{grid-inside}
 use Rattle.crossbar.proofs.Room.{inside-from-pair, outside-from-pair}
 use Rattle.crossbar.proofs.Serving.{less-none}
 use Rattle.crossbar.proofs.demand.Demand.take.Needs as need
+use Rattle.mask.specs.Bits.{holds}
 
 pub returns-then-not-has-pair : need.returns-then-not-has-pair
 returns-then-not-has-pair c =
@@ -40,8 +43,8 @@ returns-then-self-cell-eq0 c =
       count = omega arith;
     }
 
-pub sub-self-2 : need.sub-self-2
-sub-self-2 c =
+pub sub-self : need.sub-self
+sub-self c =
     let d = c .args .self .now in
     let p = c .args .pair in
     let inside = inside-from-pair d p (sym (c .if-not-has-pair .ensures tt)) in
@@ -52,8 +55,8 @@ sub-self-2 c =
       c .if-self-cell-eq0 .left,
     )
 
-pub sub-self-3 : need.sub-self-3
-sub-self-3 c =
+pub sub-self-2 : need.sub-self-2
+sub-self-2 c =
     let d = c .args .self .now in
     let p = c .args .pair in
     let inside = inside-from-pair d p (sym (c .if-not-has-pair .ensures tt)) in
@@ -74,7 +77,12 @@ ghost-self c =
     (sound-less (d .ports .count) (d .counts) (d .inputs) (d .outputs) (sound-of d) (p .input) (p .output) (d .ports .few) (inside .0) (inside .1)
     (omega (arith, ap (λ k. getD (d .counts) k 0) (c .cell-of-cell .ensures), c .if-self-cell-eq0 .left)))
     in
-    (sound .sized, (sound .in-loads, (sound .out-loads, (sound .bounded, tt))))
+    let masks : Masked (d .ports .count) (set (d .counts) (c .cell-of-cell .result) (getD (d .counts) (c .cell-of-cell .result) 0 - 1)) (set (d .rows) (p .input) (c .set .result)) (set (d .columns) (p .output) (c .set-2 .result)) =
+    subst (λ k. (waits : Bool) (told : waits ≡ ltb 0 (getD (d .counts) k 0 - 1)) → ((x : ℕ) → holds (c .set .result) x ≡ cond (eqb x (p .output) && ltb x 16) waits (holds (getD (d .rows) (p .input) no-ports) x)) → ((x : ℕ) → holds (c .set-2 .result) x ≡ cond (eqb x (p .input) && ltb x 16) waits (holds (getD (d .columns) (p .output) no-ports) x)) → Masked (d .ports .count) (set (d .counts) k (getD (d .counts) k 0 - 1)) (set (d .rows) (p .input) (c .set .result)) (set (d .columns) (p .output) (c .set-2 .result))) (sym (c .cell-of-cell .ensures))
+    (λ waits told new new′. masked-set (d .ports .count) (d .counts) (d .rows) (d .columns) (masked-of d) (p .input) (p .output) _ (d .ports .few) (d .sized .0) (inside .0) (inside .1) waits told (c .set .result) (c .set-2 .result) new new′)
+    (ltb 0 (getD (d .counts) (c .cell-of-cell .result) 0 - 1)) refl (c .set .ensures) (c .set-2 .ensures)
+    in
+    (sound .sized, (masks .sized, (sound .in-loads, (sound .out-loads, (masks .row-marks, (masks .column-marks, (sound .bounded, tt)))))))
 
 pub returns : need.returns
 returns c =
