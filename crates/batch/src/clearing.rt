@@ -5,6 +5,8 @@ ghost use mathlib.Core.Path.{_≡_};
 use crate::slots::Slots;
 use crossbar::demand::Demand;
 
+pub mod slot;
+
 /// The packets of a period that is over, and the slots left to clear them.
 ///
 /// No load is ever above the slots left. Such a batch is not let go of: it ends by being taken apart.
