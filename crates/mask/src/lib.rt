@@ -6,6 +6,9 @@ ghost use lib.Dec.{eqb, ltb};
 ghost use mathlib.Core.Bool.{_&&_, _||_, cond, false, not};
 ghost use mathlib.Core.Path.{_≡_};
 
+#[cfg(test)]
+mod tests;
+
 /// A set of ports below 16, one bit a port.
 #[derive(Clone, Copy, PartialEq, Eq, Debug)]
 pub struct Mask {

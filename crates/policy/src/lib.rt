@@ -14,6 +14,8 @@ pub mod path;
 mod search;
 mod settle;
 mod shift;
+#[cfg(test)]
+mod tests;
 mod trail;
 
 /// A policy chooses, for any demand, a setting that is lawful for it. Which of the lawful settings it gives is free.
