@@ -64,8 +64,8 @@ pub record Run (b : Clearing) (ss : List Joins) (c : Clearing) : Type 0 where
   pub left : slots-left c + length ss ≡ slots-left b
 
 -- The law of a run: its batch is clear exactly from the slot on that its largest load counts, whatever policies chose.
-abbrev pub Runs-on : Clearing → Setting → Reply → Clearing → Type 0
-Runs-on before place r after =
+abbrev pub Runs-on : Clearing → Setting → Clearing → Type 0
+Runs-on before place after =
     (b : Clearing) (ss : List Joins)
     → Run b ss before
     → When (eqb (slots-left before) 0) (Run b ss after) (Run b (ss ++ input-at place ∷ []) after × Exactly (size (b .demand)) (to-clear b) (ss ++ input-at place ∷ []))

@@ -26,20 +26,16 @@ total-lt (suc n) f g a h l s =
       | inr m ↦ let e : a ≡ n = omega arith in omega (arith, ap f e, ap g e, total-le n f g low)
     ]
 
+cond-le : (b : Bool) (x y : ℕ) → (b ≡ true → x ≤ y) → cond b x 0 ≤ cond b y 0
+cond-le true x y h = h refl
+cond-le false x y h = omega arith
+
 module _ (p : ℕ → Bool) where
   pub over-le : (n : ℕ) (f g : ℕ → ℕ) → ((k : ℕ) → k < n → p k ≡ true → f k ≤ g k) → over n p f ≤ over n p g
-  over-le n f g h = total-le n _ _ (λ k l. pick (p k) (f k) (g k) (h k l))
-    where
-      pick : (b : Bool) (x y : ℕ) → (b ≡ true → x ≤ y) → cond b x 0 ≤ cond b y 0
-      pick true x y h = h refl
-      pick false x y h = omega arith
+  over-le n f g h = total-le n _ _ (λ k l. cond-le (p k) (f k) (g k) (h k l))
 
   pub over-lt : (n : ℕ) (f g : ℕ → ℕ) (a : ℕ) → ((k : ℕ) → k < n → p k ≡ true → f k ≤ g k) → a < n → p a ≡ true → f a < g a → over n p f < over n p g
-  over-lt n f g a h l e s = total-lt n _ _ a (λ k m. pick (p k) (f k) (g k) (h k m)) l (rw e s)
-    where
-      pick : (b : Bool) (x y : ℕ) → (b ≡ true → x ≤ y) → cond b x 0 ≤ cond b y 0
-      pick true x y h = h refl
-      pick false x y h = omega arith
+  over-lt n f g a h l e s = total-lt n _ _ a (λ k m. cond-le (p k) (f k) (g k) (h k m)) l (rw e s)
 
   pub over-const : (n c : ℕ) → over n p (λ _. c) ≡ c * count n p
   unfolding total

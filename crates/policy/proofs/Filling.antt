@@ -45,11 +45,11 @@ module _ (n : ℕ) (d : Graph) (s : Partners) (w : ℕ) (t : Partners) (m : ℕ)
       record {
         grown =
             record {
-              keeps = e .keeps;
-              outputs = λ j l h. e .outputs j l (f .grown .outputs j l h);
-              inputs = λ i l k h. e .inputs i l k (f .grown .inputs i l k h);
+              keeps = e .grown .keeps;
+              outputs = λ j l h. e .grown .outputs j l (f .grown .outputs j l h);
+              inputs = λ i l k h. e .grown .inputs i l k (f .grown .inputs i l k h);
             };
-        full = below-more _ m (λ i l q k. e .inputs i q k (f .full i l q k)) (λ _ _. e .start-joined);
+        full = below-more _ m (λ i l q k. e .grown .inputs i q k (f .full i l q k)) (λ _ _. e .start-joined);
       }
 
   module _ (start : ℕ) (stuck : (q : ℕ → Bool) × Stuck n d t w start q) where

@@ -1,5 +1,5 @@
 pub mod Counting
-pub mod Clearing
+pub mod Removing
 pub mod Moves
 pub mod Reach
 pub mod Turning

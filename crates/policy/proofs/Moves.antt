@@ -52,10 +52,13 @@ module _ (n : ℕ) (d : Graph) (s : Partners) (w : ℕ) (ins outs par : ℕ → 
     pub moving-all : p ≡ 0 → Puts g j (ins 0) g′ → Mended n d s w (ins 0) g′
     moving-all z (here, other) =
         record {
-          keeps = record { once = once; packet = packet };
+          grown =
+              record {
+                keeps = record { once = once; packet = packet };
+                outputs = outputs;
+                inputs = λ i l h q. let (a, la, (ne, e)) = m .inputs i l h q in (a, la, other a ne ∙ e);
+              };
           start-joined = (j, m .hole, here);
-          outputs = outputs;
-          inputs = λ i l h q. let (a, la, (ne, e)) = m .inputs i l h q in (a, la, other a ne ∙ e);
         }
       where
         first : g′ j ≡ ins p

@@ -20,7 +20,7 @@ use Rattle.crossbar.specs.declared.port.Port.the-variants.{Input, Output}
 use Rattle.crossbar.specs.declared.setting.Setting.{Setting}
 use Rattle.crossbar.proofs.Joins.{output-joined}
 use Rattle.crossbar.proofs.Serving.{below}
-use Rattle.policy.specs.Graphs.{Graph, InJoined, Keeps, OutJoined, Partners, Turned, Weighs}
+use Rattle.policy.specs.Graphs.{Graph, InJoined, Keeps, Once, OutJoined, Partners, Turned, Weighs}
 use Rattle.policy.specs.Paths.{Full, Grown, Inverse}
 use Rattle.policy.specs.Settled.{Covers, Matched, joins-of}
 use Rattle.policy.proofs.Turning.{in-from-out, inverse-keeps, out-from-in, turned-back}
@@ -169,7 +169,7 @@ module _ (n : ℕ) (s : Partners) (k : ℕ) where
                 ]
 
 -- the next pair can be joined, since no earlier output has its input
-pub free-pair : (n : ℕ) (s : Partners) (k : ℕ) → n ≤ 16 → ((j i : ℕ) → j < n → i < n → s j < n → s j ≡ s i → j ≡ i) → k < n → s k < n → (x y : Setting) (r : Bool) → input-at x ≡ below k (joins-of n s) → r ≡ joinable x (record { input = s k; output = k }) → When r (input-at y ≡ with-pair (s k) k (input-at x)) (y ≡ x) → input-at y ≡ with-pair (s k) k (below k (joins-of n s))
+pub free-pair : (n : ℕ) (s : Partners) (k : ℕ) → n ≤ 16 → Once n s → k < n → s k < n → (x y : Setting) (r : Bool) → input-at x ≡ below k (joins-of n s) → r ≡ joinable x (record { input = s k; output = k }) → When r (input-at y ≡ with-pair (s k) k (input-at x)) (y ≡ x) → input-at y ≡ with-pair (s k) k (below k (joins-of n s))
 free-pair n s k small once kn sn x y r is told after =
     when-true (input-at y ≡ with-pair (s k) k (input-at x)) (y ≡ x) (told ∙ free) after ∙ ap (with-pair (s k) k) is
   where

@@ -33,9 +33,13 @@ OutJoined n s j = s j < n
 abbrev pub InJoined : ℕ → Partners → ℕ → Type 0
 InJoined n s i = (j : ℕ) × (j < n) × (s j ≡ i)
 
--- no input is joined to two outputs, and each joined pair has a packet
+-- no input is joined to two outputs
+abbrev pub Once : ℕ → Partners → Type 0
+Once n s = (j k : ℕ) → j < n → k < n → s j < n → s j ≡ s k → j ≡ k
+
+-- no input is joined twice, and each joined pair has a packet
 pub record Keeps (n : ℕ) (d : Graph) (s : Partners) : Type 0 where
-  pub once : (j k : ℕ) → j < n → k < n → s j < n → s j ≡ s k → j ≡ k
+  pub once : Once n s
   pub packet : (j : ℕ) → j < n → s j < n → d .link (s j) j ≡ true
 
 -- A search for a place for the input `start` that has ended without one: q are the outputs that it reached.

@@ -31,23 +31,21 @@ pub record Ending (n : ℕ) (d : Graph) (s : Partners) (w : ℕ) (ins outs : ℕ
   pub fresh : (k : ℕ) → k < c → outs k ≡ output → ⊥
   pub spare : (s output < n) → d .load (s output) < w
 
--- t joins `start`, every output that s joins, and every input of load w or more that s joins
-pub record Mended (n : ℕ) (d : Graph) (s : Partners) (w start : ℕ) (t : Partners) : Type 0 where
-  pub keeps : Keeps n d t
-  pub start-joined : InJoined n t start
-  pub outputs : (j : ℕ) → j < n → OutJoined n s j → OutJoined n t j
-  pub inputs : (i : ℕ) → i < n → w ≤ d .load i → InJoined n s i → InJoined n t i
-
--- a tree with a path that ends
-abbrev pub Path-found : ℕ → Graph → Partners → ℕ → (ℕ → ℕ) → (ℕ → ℕ) → (ℕ → ℕ) → ℕ → ℕ → Type 0
-Path-found n d s w ins outs par at output =
-    (c : ℕ) × (c ≤ 16) × (Tree n d s ins outs par c × Ending n d s w ins outs c at output)
-
 -- t joins every output that s joins, and every input of load w or more that s joins
 pub record Grown (n : ℕ) (d : Graph) (s : Partners) (w : ℕ) (t : Partners) : Type 0 where
   pub keeps : Keeps n d t
   pub outputs : (j : ℕ) → j < n → OutJoined n s j → OutJoined n t j
   pub inputs : (i : ℕ) → i < n → w ≤ d .load i → InJoined n s i → InJoined n t i
+
+-- t is grown from s, and joins `start` too
+pub record Mended (n : ℕ) (d : Graph) (s : Partners) (w start : ℕ) (t : Partners) : Type 0 where
+  pub grown : Grown n d s w t
+  pub start-joined : InJoined n t start
+
+-- a tree with a path that ends
+abbrev pub Path-found : ℕ → Graph → Partners → ℕ → (ℕ → ℕ) → (ℕ → ℕ) → (ℕ → ℕ) → ℕ → ℕ → Type 0
+Path-found n d s w ins outs par at output =
+    (c : ℕ) × (c ≤ 16) × (Tree n d s ins outs par c × Ending n d s w ins outs c at output)
 
 -- every input of load w or more is joined
 abbrev pub Full : ℕ → Graph → ℕ → Partners → Type 0

@@ -6,12 +6,12 @@ use lib.Dec.{ltb}
 use Rattle.crossbar.specs.Joining.{Joins}
 use Rattle.crossbar.specs.Loads.{Counts, Critical}
 use Rattle.crossbar.specs.declared.port.Port.the-variants.{Input, Output}
-use Rattle.policy.specs.Graphs.{InJoined, OutJoined, Partners}
+use Rattle.policy.specs.Graphs.{InJoined, Once, OutJoined, Partners}
 use Rattle.std.specs.declared.option.Option.the-variants.{Some, None}
 
--- no input is joined to two outputs, and each joined pair has a packet
+-- no input is joined twice, and each joined pair has a packet
 pub record Matched (n : ℕ) (c : Counts) (s : Partners) : Type 0 where
-  pub once : (j k : ℕ) → j < n → k < n → s j < n → s j ≡ s k → j ≡ k
+  pub once : Once n s
   pub packet : (j : ℕ) → j < n → s j < n → 1 ≤ c (s j) j
 
 -- every critical port is joined

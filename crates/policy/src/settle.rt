@@ -1,8 +1,8 @@
 //! Joining every critical port of a demand.
-ghost use Prim.Native.Nat.{ℕ, _<_, _≤_};
+ghost use Prim.Native.Nat.{_≤_};
 ghost use Rattle.crossbar.specs.Clearing.{Lawful};
 ghost use Rattle.crossbar.specs.Models.{input-at, size, waiting};
-ghost use Rattle.policy.specs.Graphs.{partners};
+ghost use Rattle.policy.specs.Graphs.{Once, partners};
 ghost use Rattle.policy.specs.Paths.{Inverse};
 ghost use Rattle.policy.specs.Settled.{Covers, Matched, joins-of};
 ghost use mathlib.Core.Path.{_≡_};
@@ -42,7 +42,7 @@ pub(crate) fn settle(demand: &Demand, from: &mut [u8; 16], to: &mut [u8; 16])
 /// The setting that joins each output to its partner.
 fn setting_of(ports: u8, from: &[u8; 16]) -> Setting
     requires small { ⌜ ports ≤ 16 ⌝ }
-    requires once { ⌜ ((j k : ℕ) → j < ports → k < ports → partners (now from) j < ports → partners (now from) j ≡ partners (now from) k → j ≡ k) ⌝ }
+    requires once { ⌜ Once ports (partners (now from)) ⌝ }
     ensures { λ r. ⌜ input-at r ≡ joins-of ports (partners (now (from .entry))) ⌝ }
 {
     let mut setting = Setting::empty();

@@ -13,7 +13,7 @@ impl Clearing {
     /// change from slot to slot, the packets of a batch have left after exactly as many slots as its largest load.
     pub fn slot<P: Policy>(&mut self, policy: &mut P, place: &mut Setting) -> Reply
         ensures slot { λ r. ⌜ Slotted (P·Policy .given) (now (self .entry)) (now (policy .entry)) (now (place .entry)) r (now (self .exit)) (now (policy .exit)) (now (place .exit)) ⌝ }
-        ensures run { λ r. ⌜ Runs-on (now (self .entry)) (now (place .exit)) r (now (self .exit)) ⌝ }
+        ensures run { λ _. ⌜ Runs-on (now (self .entry)) (now (place .exit)) (now (self .exit)) ⌝ }
     {
         if self.left == 0 {
             return Reply::refused(Reason::NoSlotsLeft, 0);

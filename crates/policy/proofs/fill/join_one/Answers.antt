@@ -2,7 +2,7 @@ use mathlib.Core.Path.{_∙_, subst}
 use Rattle.policy.specs.Graphs.{partners}
 use Rattle.policy.specs.Kernel.{graph-of}
 use Rattle.policy.specs.Paths.{Mended}
-use Rattle.policy.proofs.Clearing.{cleared, others-stay}
+use Rattle.policy.proofs.Removing.{cleared, others-stay}
 use Rattle.policy.proofs.Moves.{spare-less}
 use Rattle.policy.proofs.fill.join_one.Needs as need
 

@@ -13,7 +13,7 @@ use Rattle.policy.specs.Paths.{place}
 use Rattle.policy.specs.Searching.{Row}
 use Rattle.crossbar.specs.declared.side.Side.{Side}
 use Rattle.policy.specs.declared.trail.Trail.{Trail}
-use Rattle.policy.proofs.Clearing.{cleared, others-stay}
+use Rattle.policy.proofs.Removing.{cleared, others-stay}
 use Rattle.policy.proofs.Reach.{course-space, row-end, row-low, row-more}
 use Rattle.policy.proofs.trail.Trail.spread.Needs as need
 
