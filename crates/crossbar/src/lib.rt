@@ -1,4 +1,6 @@
 //! Ports, demands and settings of a crossbar, and the laws of clearing a demand.
+#![tactic(auto)]
+
 pub mod demand;
 pub mod port;
 pub mod ports;

@@ -1,4 +1,6 @@
 //! Sets of ports, kept as masks of 16 bits.
+#![tactic(auto)]
+
 ghost use Rattle.std.specs.Prelude.{◌≡◌, ℕ, false, not, ◌&&◌, ◌||◌, if◌then◌else◌, MatchOption, ◌==◌, nat_eq, nat_lt};
 ghost use Rattle.mask.specs.Bits.{Lowest, holds};
 

@@ -1,5 +1,7 @@
 //! One period at an observatory: reads the line, the ports and the camera readouts from standard input, and prints
 //! what is gathered and in how many slots it clears, and where a policy is named, by which settings, slot by slot.
+#![tactic(auto)]
+
 use std::io;
 
 mod chart;

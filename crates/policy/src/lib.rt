@@ -2,6 +2,8 @@
 //!
 //! All stand on one kernel: `fill` joins every port of one side that has a large load, along paths that `search` finds
 //! and `shift` flips.
+#![tactic(auto)]
+
 ghost use Rattle.crossbar.specs.Clearing.{Lawful};
 ghost use Rattle.crossbar.specs.Models.{input_at, size, waiting};
 ghost use Rattle.crossbar.specs.declared.setting.Setting.{Setting};

@@ -1,4 +1,6 @@
 //! Gathering the packets of a camera readout.
+#![tactic(auto)]
+
 ghost use Rattle.readout.specs.Readouts.{ReadOut};
 
 use batch::gathering::Gathering;

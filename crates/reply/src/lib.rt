@@ -1,4 +1,6 @@
 //! What every call answers: done, with a count, or refused, for a reason and at a place.
+#![tactic(auto)]
+
 ghost use Rattle.reply.specs.Answers.{answer, code, done, place_of, reason_of, refused};
 ghost use Rattle.reply.specs.declared.Reply.{Reply};
 ghost use Rattle.std.specs.Prelude.{◌≡◌};

@@ -17,8 +17,8 @@ returns-in-None c =
       best = λ _ t ok all. filled_best _ _ _ _ _ _ f _ stuck t ok all;
       still =
           λ full.
-          let l : c.first-open-first.result < c.args.side.ports = omega (arith, c.if-first-side.false, c.first-open-first.ensures.within) in
-          absurd (not_full _ (graph_of c.args.side) _ _ _ _ c.requires.pairs l (c.first-open-first.ensures.here l) full);
+          let l : c.first_open-first.result < c.args.side.ports = omega (arith, c.if-first-side.false, c.first_open-first.ensures.within) in
+          absurd (not_full _ (graph_of c.args.side) _ _ _ _ c.requires.pairs l (c.first_open-first.ensures.here l) full);
       critical = λ counts weighs pos cap. absurd (filled_critical _ _ _ _ _ _ f _ stuck counts weighs pos cap);
     }
 

@@ -11,8 +11,8 @@ pub mended-requires : goal.mended-requires
 mended-requires c =
     let d = c.args.demand.now in
     record {
-      matched = starting_matched (size d) (waiting d) _ _ c.partners-of.ensures.joins (setting_rule c.args.start.now);
-      pairs = c.partners-of.ensures.pairs;
+      matched = starting_matched (size d) (waiting d) _ _ c.partners_of.ensures.joins (setting_rule c.args.start.now);
+      pairs = c.partners_of.ensures.pairs;
     }
 
 pub returns : goal.returns
@@ -20,8 +20,8 @@ returns c =
     let d = c.args.demand.now in
     let n = size d in
     let f = input_at c.args.start.now in
-    let s = partners c.partners-of.result.0 in
-    let is = c.partners-of.ensures.joins in
+    let s = partners c.partners_of.result.0 in
+    let is = c.partners_of.ensures.joins in
     record {
       lawful = c.mended.ensures.lawful;
       pairs = omega (arith, ap pair_count is, pair_count_partners n s d.ports.few, c.mended.ensures.grown);

@@ -15,7 +15,7 @@ returns c =
     let n = size d in
     let t = partners c.settle.new.from in
     let count : c.count.result ≡ n = c.count.ensures ∙ ap (λ (p : Ports). p.count) c.ports.ensures in
-    let is : input_at c.setting-of.result ≡ joins_of n t = c.setting-of.ensures ∙ ap (λ k. joins_of k t) count in
+    let is : input_at c.setting_of.result ≡ joins_of n t = c.setting_of.ensures ∙ ap (λ k. joins_of k t) count in
     record {
       lawful = subst (Lawful n (waiting d)) (sym is) (lawful_from n (waiting d) t c.settle.ensures.matched c.settle.ensures.covers);
       grown = omega (arith, ap pair_count is, pair_count_partners n t d.ports.few, c.settle.ensures.grown);

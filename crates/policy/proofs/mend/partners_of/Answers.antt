@@ -10,7 +10,7 @@ use Rattle.policy.specs.Graphs.{partners}
 use Rattle.policy.specs.Settled.{joins_of}
 use Rattle.crossbar.specs.declared.ports.Ports.{Ports}
 use Rattle.policy.proofs.mend.partners_of.Goals as goal
-use Rattle.policy.proofs.mend.partners_of.Goals.{in-Some+then-count-gt0, in-Some+else-count-gt0, in-default}
+use Rattle.policy.proofs.mend.partners_of.Goals.{in-Some+then-count-gt0, in-Some+else-count-gt0, in_default}
 
 pub loop-output-init : goal.loop-output-init
 loop-output-init c =
@@ -34,7 +34,7 @@ loop-output-preserved c =
     let f = with_packets (waiting d) s in
     let k = c.loop-output.output in
     let (long, long', is, v) = c.loop-output.invariant in
-    elim c.match-input-of.branch [
+    elim c.match-input_of.branch [
       | in-Some+then-count-gt0 w ↦
           let i = w.in-Some.input in
           let joined : s k ≡ Some i = sym w.in-Some.ensures in
@@ -57,10 +57,10 @@ loop-output-preserved c =
             ∙ below_more_none f k (packets_zero (waiting d) s w.in-Some.input k (sym w.in-Some.ensures) (omega (arith, w.count.ensures, w.if-count-gt0.false))),
         inverse_same (size d) w.from-is w.to-is v,
       )
-      | in-default w ↦ (
+      | in_default w ↦ (
         ap length w.from-is ∙ long,
         ap length w.to-is ∙ long',
-        ap (λ xs. joins_of (size d) (partners xs)) w.from-is ∙ is ∙ below_more_none f k (packets_none (waiting d) s k (sym w.in-default.ensures)),
+        ap (λ xs. joins_of (size d) (partners xs)) w.from-is ∙ is ∙ below_more_none f k (packets_none (waiting d) s k (sym w.in_default.ensures)),
         inverse_same (size d) w.from-is w.to-is v,
       )
     ]

@@ -7,7 +7,7 @@ use Rattle.policy.specs.Mending.{with_packets}
 use Rattle.policy.proofs.Building.{below_all, below_more_none, below_none, free_pair}
 use Rattle.policy.proofs.Starting.{packets_none, packets_past, packets_setting, packets_some, packets_zero}
 use Rattle.policy.proofs.peel.with_packets.Goals as goal
-use Rattle.policy.proofs.peel.with_packets.Goals.{in-Some+then-count-gt0, in-Some+else-count-gt0, in-default}
+use Rattle.policy.proofs.peel.with_packets.Goals.{in-Some+then-count-gt0, in-Some+else-count-gt0, in_default}
 
 pub loop-output-init : goal.loop-output-init
 loop-output-init c =
@@ -20,7 +20,7 @@ loop-output-preserved c =
     let f = with_packets (waiting d) s in
     let k = c.loop-output.output in
     let rule = packets_setting 16 (waiting d) s (setting_rule c.args.setting.now) in
-    elim c.match-input-of.branch [
+    elim c.match-input_of.branch [
       | in-Some+then-count-gt0 w ↦
           let i = w.in-Some.input in
           let joined : s k ≡ Some i = sym w.in-Some.ensures in
@@ -31,7 +31,7 @@ loop-output-preserved c =
           ap input_at w.peeled-is
           ∙ c.loop-output.invariant
           ∙ below_more_none f k (packets_zero (waiting d) s w.in-Some.input k (sym w.in-Some.ensures) (omega (arith, w.count.ensures, w.if-count-gt0.false)))
-      | in-default w ↦ ap input_at w.peeled-is ∙ c.loop-output.invariant ∙ below_more_none f k (packets_none (waiting d) s k (sym w.in-default.ensures))
+      | in_default w ↦ ap input_at w.peeled-is ∙ c.loop-output.invariant ∙ below_more_none f k (packets_none (waiting d) s k (sym w.in_default.ensures))
     ]
 
 pub returns : goal.returns

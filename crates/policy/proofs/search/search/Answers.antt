@@ -33,8 +33,8 @@ returns-in-Some c =
       );
     }
 
-pub overflow-add-at : goal.overflow-add-at
-overflow-add-at c =
+pub overflow_add-at : goal.overflow_add-at
+overflow_add-at c =
     let low = course_low _ _ _ _ _ _ _ _ _ _ c.loop-at.invariant.2 in
     let small = c.requires.small in
     search rules

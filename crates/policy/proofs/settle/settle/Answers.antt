@@ -36,8 +36,8 @@ pub returns : goal.returns
 returns c =
     let d = c.args.demand.now in
     let n = size d in
-    let w = c.largest-load-want.result in
-    let top = c.largest-load-want.ensures.value in
+    let w = c.largest_load-want.result in
+    let top = c.largest_load-want.ensures.value in
     let ins = graph_of c.inputs.result in
     let outs = graph_of c.outputs.result in
     let first = c.fill-inputs.ensures in

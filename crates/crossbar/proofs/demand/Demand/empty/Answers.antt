@@ -11,27 +11,18 @@ use Rattle.crossbar.proofs.demand.Demand.empty.Goals as goal
 none : (n : ℕ) (p : Port) → load n (grid n (replicate 256 0)) p ≡ 0
 none n p = ap (λ d. load n d p) (grid_nothing n 256) ∙ load_zeros n nothing p (λ i j. refl)
 
-pub invariant-of-result : goal.invariant-of-result
-invariant-of-result c =
-    let n = c.args.ports.count in (
-      (refl, refl, refl),
-      (
-        (refl, refl),
-        (
-          λ k. same_everywhere 16 0 k ∙ sym (none n (Input k)),
-          (
-            λ k. same_everywhere 16 0 k ∙ sym (none n (Output k)),
-            (
-              marks_nothing 16 c.empty-none.result (grid n (replicate 256 0)) c.empty-none.ensures (λ i j. ap (λ d. d i j) (grid_nothing n 256)),
-              (
-                marks_nothing 16 c.empty-none.result (turned (grid n (replicate 256 0))) c.empty-none.ensures (λ j i. ap (λ d. d i j) (grid_nothing n 256)),
-                (loads_le n (grid n (replicate 256 0)) 1024 (λ p _. omega (arith, none n p)), tt),
-              ),
-            ),
-          ),
-        ),
-      ),
-    )
+pub invariant_of-result : goal.invariant_of-result
+invariant_of-result c =
+    let n = c.args.ports.count in
+    record {
+      sized = (refl, refl, refl);
+      masked = (refl, refl);
+      input_loads = λ k. same_everywhere 16 0 k ∙ sym (none n (Input k));
+      output_loads = λ k. same_everywhere 16 0 k ∙ sym (none n (Output k));
+      row_masks = marks_nothing 16 c.empty-none.result (grid n (replicate 256 0)) c.empty-none.ensures (λ i j. ap (λ d. d i j) (grid_nothing n 256));
+      column_masks = marks_nothing 16 c.empty-none.result (turned (grid n (replicate 256 0))) c.empty-none.ensures (λ j i. ap (λ d. d i j) (grid_nothing n 256));
+      bounded = loads_le n (grid n (replicate 256 0)) 1024 (λ p _. omega (arith, none n p));
+    }
 
 pub returns : goal.returns
 returns c = record { ports = refl; empty = grid_nothing c.args.ports.count 256 }

@@ -8,7 +8,7 @@ pub returns-then-largest-ge1 : goal.returns-then-largest-ge1
 returns-then-largest-ge1 c =
     let d = c.args.self.now in
     let p = c.args.port in
-    let top = c.largest-load-largest.ensures.value in
+    let top = c.largest_load-largest.ensures.value in
     let busy : 1 ≤ largest_of d = omega (arith, top, c.if-largest-ge1.true) in (
       λ e.
           let most : load_of d p ≡ largest_of d = sym c.load.ensures ∙ eqb-true _ _ e ∙ top in

@@ -10,5 +10,5 @@ mirrored i j e =
     let z : ◌≡◌ {A = ℕ} 0 1 = cc in
     absurd (omega arith)
 
-pub invariant-of-result : goal.invariant-of-result
-invariant-of-result c = ((refl, refl), (mirrored, (mirrored, tt)))
+pub invariant_of-result : goal.invariant_of-result
+invariant_of-result c = record { sized = (refl, refl); there = mirrored; back = mirrored }

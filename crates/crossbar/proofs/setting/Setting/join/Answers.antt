@@ -5,27 +5,23 @@ use Rattle.crossbar.proofs.Joins.{free_from_joinable}
 use Rattle.crossbar.proofs.Places.{mirrors_set, set_places}
 use Rattle.crossbar.proofs.setting.Setting.join.Goals as goal
 
-pub invariant-of-self : goal.invariant-of-self
-invariant-of-self c =
+pub invariant_of-self : goal.invariant_of-self
+invariant_of-self c =
     let s = c.args.self.now in
     let a = c.args.pair.input in
     let b = c.args.pair.output in
-    let f = free_from_joinable s c.args.pair (sym c.if-not-can-join.ensures) in (
-      (length-set s.inputs b (Some a) ∙ s.sized.0, length-set s.outputs a (Some b) ∙ s.sized.1),
-      (
-        mirrors_set s.inputs s.outputs a b (omega (arith, f.output, s.sized.0)) (omega (arith, f.input, s.sized.1)) f.input_free s.there,
-        (
-          mirrors_set s.outputs s.inputs b a (omega (arith, f.input, s.sized.1)) (omega (arith, f.output, s.sized.0)) f.output_free s.back,
-          tt,
-        ),
-      ),
-    )
+    let f = free_from_joinable s c.args.pair (sym c.if-not-can_join.ensures) in
+    record {
+      sized = (length-set s.inputs b (Some a) ∙ s.sized.0, length-set s.outputs a (Some b) ∙ s.sized.1);
+      there = mirrors_set s.inputs s.outputs a b (omega (arith, f.output, s.sized.0)) (omega (arith, f.input, s.sized.1)) f.input_free s.there;
+      back = mirrors_set s.outputs s.inputs b a (omega (arith, f.input, s.sized.1)) (omega (arith, f.output, s.sized.0)) f.output_free s.back;
+    }
 
 pub returns : goal.returns
 returns c =
     let s = c.args.self.now in
     let a = c.args.pair.input in
     let b = c.args.pair.output in
-    let told = c.if-not-can-join.ensures in
+    let told = c.if-not-can_join.ensures in
     let f = free_from_joinable s c.args.pair (sym told) in
     record { possible = told; after = fun_ext (set_places s.inputs b (Some a) None (omega (arith, f.output, s.sized.0))) }

@@ -4,8 +4,8 @@ use Rattle.crossbar.specs.Models.{input_at, output_at}
 use Rattle.crossbar.proofs.Joins.{output_joined}
 use Rattle.crossbar.proofs.setting.Setting.output_of.Goals as goal
 
-pub returns-then-input-ge-MOST-PORTS : goal.returns-then-input-ge-MOST-PORTS
-returns-then-input-ge-MOST-PORTS c =
+pub returns-then-input-ge-MOST_PORTS : goal.returns-then-input-ge-MOST_PORTS
+returns-then-input-ge-MOST_PORTS c =
     let s = c.args.self.now in
     let i = c.args.input in
     let none : output_at s i ≡ None = get_or_past s.outputs i None (omega (arith, s.sized.1)) in

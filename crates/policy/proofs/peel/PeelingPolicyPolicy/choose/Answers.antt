@@ -7,10 +7,10 @@ use Rattle.policy.proofs.peel.PeelingPolicyPolicy.choose.Goals as goal
 pub returns : goal.returns
 returns c =
     let d = c.args.demand.now in
-    let whole = input_at c.lawful-setting-whole.result in
+    let whole = input_at c.lawful_setting-whole.result in
     record {
       lawful =
-          subst (Lawful (size d) (waiting d)) (sym c.with-packets-setting.ensures)
-          (peeled d c.raise.result c.raise.ensures whole c.lawful-setting-whole.ensures);
+          subst (Lawful (size d) (waiting d)) (sym c.with_packets-setting.ensures)
+          (peeled d c.raise.result c.raise.ensures whole c.lawful_setting-whole.ensures);
       last = refl;
     }

@@ -53,5 +53,5 @@ returns c =
     record {
       start = r.from_start;
       low = r.low;
-      course = row_end _ _ _ _ _ _ _ _ _ _ _ _ r (λ j. sym (c.meet.ensures j) ∙ c.in-default.ensures j);
+      course = row_end _ _ _ _ _ _ _ _ _ _ _ _ r (λ j. sym (c.meet.ensures j) ∙ c.in_default.ensures j);
     }

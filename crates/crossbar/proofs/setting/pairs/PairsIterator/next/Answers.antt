@@ -13,7 +13,7 @@ returns-in-Some c =
     let s = input_at p.setting.now in
     let k = c.loop-output.output in
     let same = c.loop-output.invariant.0 in
-    let here : s k ≡ Some c.in-Some.input = sym (c.input-of.ensures ∙ ap (λ (q : Pairs). input_at q.setting.now k) same) ∙ c.in-Some.is in
+    let here : s k ≡ Some c.in-Some.input = sym (c.input_of.ensures ∙ ap (λ (q : Pairs). input_at q.setting.now k) same) ∙ c.in-Some.is in
     let past : p.output ≤ k = omega arith in
     record {
       steps = (
@@ -28,7 +28,7 @@ loop-output-preserved c =
     let p = c.args.self.now in
     let k = c.loop-output.output in
     let same = c.loop-output.invariant.0 in
-    let here : input_at p.setting.now k ≡ None = sym (c.input-of.ensures ∙ ap (λ (q : Pairs). input_at q.setting.now k) same) ∙ c.in-default.is in
+    let here : input_at p.setting.now k ≡ None = sym (c.input_of.ensures ∙ ap (λ (q : Pairs). input_at q.setting.now k) same) ∙ c.in_default.is in
     (same, pairs_none (input_at p.setting.now) k here ∙ c.loop-output.invariant.1)
 
 pub returns : goal.returns
