@@ -1,5 +1,5 @@
 -- A packet that is not refused has room, and keeps every load within the bound.
-use Rattle.std.proofs.Common.{◌≡◌, ℕ, ◌<◌, ◌≤◌, Bool, true, false, cond, leb, Some, None, Option, sym, refl, ap, subst, arith}
+use Rattle.std.proofs.Common.{◌≡◌, ℕ, ◌<◌, ◌≤◌, Bool, true, false, cond, leb, Some, None, sym, refl, ap, subst, arith}
 use Rattle.std.proofs.lemmas.Bool.{and_from, leb-false, lt-ltb}
 use Rattle.crossbar.proofs.Loads.{largest_nothing, more_within}
 use Rattle.crossbar.specs.Loads.{Counts, largest_load, load, nothing, one_more}

@@ -1,9 +1,9 @@
 -- A demand's arrays after some packets more, or one less, for a pair.
-use Rattle.std.proofs.Common.{◌≡◌, ℕ, ◌+◌, ◌-◌, ◌*◌, ◌<◌, ◌≤◌, Bool, cond, ◌&&◌, eqb, ltb, ◌⊎◌, List, length, get_or, set, sym, refl, ap, ◌∙◌, subst, inl, inr, mul-zero, mul-one, arith}
+use Rattle.std.proofs.Common.{◌≡◌, ℕ, ◌+◌, ◌-◌, ◌*◌, ◌<◌, ◌≤◌, Bool, cond, ◌&&◌, eqb, ltb, List, length, get_or, set, sym, refl, ap, ◌∙◌, subst, inl, inr, mul-zero, mul-one, arith}
 use Rattle.std.proofs.lemmas.List.{length-set}
 use Rattle.std.proofs.lemmas.Bool.{and_parts, cases_Bool, eq-eqb, eqb-true, ne_eqb}
 use Rattle.crossbar.specs.Arrays.{grid, Holds, Marks, no_ports}
-use Rattle.crossbar.specs.Loads.{Counts, index, load, largest_load, more, one_less, single, turned}
+use Rattle.crossbar.specs.Loads.{load, largest_load, more, one_less, single, turned}
 use Rattle.crossbar.specs.declared.demand.Demand.{Demand}
 use Rattle.mask.specs.Bits.{holds}
 use Rattle.mask.specs.declared.Mask.{Mask}

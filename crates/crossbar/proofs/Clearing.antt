@@ -1,11 +1,11 @@
 -- How settings lower the largest load, and how many it takes to clear what waits.
-use Rattle.std.proofs.Common.{◌≡◌, ℕ, ◌+◌, ◌-◌, ◌<◌, ◌≤◌, Bool, true, false, cond, eqb, ◌⊎◌, List, [], ◌∷◌, length, Some, None, Option, sym, refl, ap, ◌∙◌, inl, inr, arith}
+use Rattle.std.proofs.Common.{◌≡◌, ℕ, ◌+◌, ◌-◌, ◌<◌, ◌≤◌, Bool, true, false, cond, eqb, List, [], ◌∷◌, length, Some, None, Option, sym, refl, ap, ◌∙◌, inl, inr, arith}
 use mathlib.Core.Path.{fun_ext}
-use Rattle.std.specs.List.{AllByRecursion as All}
+use Rattle.std.specs.List.{AllByRecursion}
 use Rattle.std.proofs.lemmas.Bool.{cases_lt, cases_eq, eqb-true, eq-eqb}
-use Rattle.crossbar.specs.Clearing.{served, served_all, Clears, Lawful, AllLawful, NoFewer, Lowers, Exactly}
+use Rattle.crossbar.specs.Clearing.{served, served_all, Lawful, AllLawful, NoFewer, Lowers, Exactly}
 use Rattle.crossbar.specs.Joining.{Joins, IsSetting, Joined, is_input, joined}
-use Rattle.crossbar.specs.Loads.{Counts, Critical, index, load, largest_load}
+use Rattle.crossbar.specs.Loads.{Counts, index, load, largest_load}
 use Rattle.crossbar.specs.declared.port.Port.{Port}
 use Rattle.crossbar.specs.declared.port.Port.TheVariants.{Input, Output}
 use Rattle.crossbar.proofs.Loads.{load_le, loads_le, load_minus, load_minus_exact, none_waits}
@@ -122,7 +122,7 @@ module _ (n : ℕ) (d : Counts) (s : Joins) (law : Lawful n d s) where
         | inr g ↦ let z : largest_load n d ≡ 0 = omega arith in omega (arith, ap (largest_load n) (lowers.at_zero z))
       ]
 
-all_settings : (n : ℕ) (d : Counts) (ss : List Joins) → AllLawful n d ss → All (IsSetting n) ss
+all_settings : (n : ℕ) (d : Counts) (ss : List Joins) → AllLawful n d ss → AllByRecursion (IsSetting n) ss
 all_settings n d [] h = tt
 all_settings n d (s ∷ ss) h = (h.0.setting, all_settings n (served s d) ss h.1)
 

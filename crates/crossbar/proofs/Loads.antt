@@ -1,10 +1,10 @@
 -- Loads as counts change, and the largest load over all ports.
-use Rattle.std.proofs.Common.{◌≡◌, ℕ, ◌+◌, ◌-◌, ◌*◌, ◌<◌, ◌≤◌, max, Bool, true, false, cond, ◌&&◌, eqb, ◌⊎◌, sym, refl, ap, ◌∙◌, subst, inl, inr, one-mul, mul-zero, mul-one, arith}
+use Rattle.std.proofs.Common.{◌≡◌, ℕ, ◌+◌, ◌-◌, ◌*◌, ◌<◌, ◌≤◌, Bool, true, false, cond, ◌&&◌, eqb, sym, refl, ap, ◌∙◌, subst, inl, inr, one-mul, mul-zero, mul-one, arith}
 use mathlib.Core.Path.{fun_ext}
 use Rattle.std.proofs.lemmas.Bool.{cases_Bool, eqb-true}
 use Rattle.std.proofs.lemmas.Bool.Decides.{nat_tests}
 use Rattle.crossbar.specs.Loads.{Counts, nothing, single, more, one_more, load, index, largest_load, packets}
-use Rattle.crossbar.specs.Sums.{total, largest}
+use Rattle.crossbar.specs.Sums.{total}
 use Rattle.crossbar.specs.declared.port.Port.{Port}
 use Rattle.crossbar.specs.declared.port.Port.TheVariants.{Input, Output}
 use Rattle.crossbar.proofs.Sums.{total_add, total_has, total_less, total_less_exact, total_none, total_same, total_single, total_times, total_zeros, largest_has, largest_le}

@@ -1,8 +1,7 @@
 -- What the tests of a pair tell.
 use Rattle.std.proofs.Common.{◌≡◌, ℕ, ◌+◌, ◌-◌, ◌<◌, ◌≤◌, Bool, true, false, ◌&&◌, ltb, leb, ◌⊎◌, sym, ◌∙◌, inl, inr, add-one, arith}
 use Rattle.std.proofs.lemmas.Bool.{and_cases, and_parts, cases_lt, le-leb, leb-true, lt-leb, ltb-false, ltb-true}
-use Rattle.crossbar.specs.Loads.{load, index}
-use Rattle.crossbar.specs.Arrays.{grid}
+use Rattle.crossbar.specs.Loads.{index}
 use Rattle.crossbar.specs.Models.{has_pair, has_room, has_room_for, load_of, size, waiting}
 use Rattle.crossbar.specs.declared.demand.Demand.{Demand}
 use Rattle.crossbar.specs.declared.port.Pair.{Pair}

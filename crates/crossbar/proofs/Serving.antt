@@ -1,10 +1,10 @@
 -- Serving pair by pair, in order of output.
-use Rattle.std.proofs.Common.{◌≡◌, ℕ, ◌+◌, ◌-◌, ◌<◌, ◌≤◌, Bool, true, false, cond, ◌&&◌, eqb, ltb, ◌⊎◌, Some, None, Option, sym, refl, ap, ◌∙◌, inl, inr, arith}
+use Rattle.std.proofs.Common.{◌≡◌, ℕ, ◌-◌, ◌<◌, ◌≤◌, cond, ◌&&◌, eqb, ltb, None, ap, inl, inr, arith}
 use mathlib.Core.Path.{fun_ext}
-use Rattle.std.proofs.lemmas.Bool.{and_parts, and_right, cases_Bool, cases_lt, cases_order, eq-eqb, eqb-true, le-ltb, lt-ltb, ne_eqb}
+use Rattle.std.proofs.lemmas.Bool.{and_parts, cases_Bool, cases_lt, eqb-true, le-ltb, lt-ltb}
 use Rattle.crossbar.specs.Clearing.{served}
-use Rattle.crossbar.specs.Joining.{Joins, is_input, joined}
-use Rattle.crossbar.specs.Loads.{Counts, one_less, packets, single}
+use Rattle.crossbar.specs.Joining.{Joins, is_input}
+use Rattle.crossbar.specs.Loads.{Counts, one_less}
 
 -- what a setting joins to the outputs below k
 abbrev pub below : ℕ → Joins → Joins

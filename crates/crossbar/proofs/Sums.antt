@@ -1,6 +1,6 @@
 -- The laws of sums and of the largest below n.
-use Rattle.std.proofs.Common.{◌≡◌, ℕ, zero, suc, ◌+◌, ◌-◌, ◌*◌, ◌<◌, ◌≤◌, max, cond, eqb, ◌⊎◌, sym, refl, ap, ◌∙◌, inl, inr, mul-zero, mul-add, add-one, arith}
-use Rattle.std.proofs.lemmas.Bool.{cases_lt, cases_eq, eq-eqb}
+use Rattle.std.proofs.Common.{◌≡◌, ℕ, zero, suc, ◌+◌, ◌-◌, ◌*◌, ◌<◌, ◌≤◌, max, cond, eqb, sym, refl, ap, ◌∙◌, inl, inr, mul-zero, mul-add, add-one, arith}
+use Rattle.std.proofs.lemmas.Bool.{cases_lt, eq-eqb}
 use Rattle.std.proofs.lemmas.Bool.Decides.{nat_tests}
 use Rattle.crossbar.specs.Sums.{total, largest}
 

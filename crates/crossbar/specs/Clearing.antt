@@ -1,6 +1,6 @@
 -- Serving a demand by settings, what it takes to clear one, and the settings that are lawful for it.
 use Rattle.std.specs.Prelude.{◌≡◌, ℕ, ◌+◌, ◌-◌, ◌<◌, ◌≤◌, List, [], ◌∷◌, length, Some}
-use Rattle.std.specs.List.{AllByRecursion as All}
+use Rattle.std.specs.List.{AllByRecursion}
 use Rattle.crossbar.specs.Joining.{Joins, IsSetting, Joined, joined}
 use Rattle.crossbar.specs.Loads.{Counts, Critical, largest_load}
 use Rattle.crossbar.specs.declared.port.Port.{Port}
@@ -16,7 +16,7 @@ served_all (s ∷ ss) d = served_all ss (served s d)
 
 -- settings that, one after the other, leave nothing of what waits
 pub record Clears (n : ℕ) (ss : List Joins) (d : Counts) : Type 0 where
-  pub settings : All (IsSetting n) ss
+  pub settings : AllByRecursion (IsSetting n) ss
   pub nothing_left : (i j : ℕ) → i < n → j < n → served_all ss d i j ≡ 0
 
 -- a setting that joins only pairs with a packet, and every critical port

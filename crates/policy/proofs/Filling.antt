@@ -1,6 +1,6 @@
 -- Joining one input after another.
-use Rattle.std.proofs.Common.{◌≡◌, ℕ, ◌+◌, ◌<◌, ◌≤◌, Bool, true, false, ltb, ◌⊎◌, List, sym, refl, ap, ◌∙◌, subst, inl, inr, arith, below_more}
-use Rattle.std.proofs.lemmas.Bool.{both_ways, cases_eq, false≢true, lt-ltb}
+use Rattle.std.proofs.Common.{◌≡◌, ℕ, ◌+◌, ◌<◌, ◌≤◌, Bool, true, false, ltb, List, sym, ap, ◌∙◌, subst, inl, inr, arith, below_more}
+use Rattle.std.proofs.lemmas.Bool.{both_ways, cases_eq, lt-ltb}
 use Rattle.mask.specs.Bits.{holds}
 use Rattle.crossbar.specs.Loads.{Counts, load}
 use Rattle.crossbar.specs.declared.port.Port.TheVariants.{Output}

@@ -1,11 +1,11 @@
 -- A search that is stuck: what it reached has one input more than outputs.
-use Rattle.std.proofs.Common.{◌≡◌, ℕ, zero, suc, ◌+◌, ◌*◌, ◌<◌, ◌≤◌, Bool, true, false, cond, ◌&&◌, ◌||◌, eqb, ◌⊎◌, Decides, sym, refl, ap, ◌∙◌, subst, inl, inr, mul-le-mul_left, mul-add, arith}
-use Rattle.std.proofs.lemmas.Bool.{cases_lt, eqb-true, eq-eqb, lt-ltb}
+use Rattle.std.proofs.Common.{◌≡◌, ℕ, zero, suc, ◌<◌, ◌≤◌, Bool, true, false, ◌&&◌, ◌||◌, eqb, ◌⊎◌, Decides, sym, refl, ◌∙◌, subst, inl, inr, mul-le-mul_left, mul-add, arith}
+use Rattle.std.proofs.lemmas.Bool.{cases_lt, lt-ltb}
 use Rattle.std.proofs.lemmas.Bool.Decides.{Decides-below_or, Decides-and, Decides-or, Decides-eqb}
 use Rattle.crossbar.specs.Loads.{Counts, load}
 use Rattle.crossbar.specs.Sums.{total}
 use Rattle.crossbar.specs.declared.port.Port.TheVariants.{Input, Output}
-use Rattle.crossbar.proofs.Sums.{total_has, total_le, total_one, total_zeros}
+use Rattle.crossbar.proofs.Sums.{total_has, total_one, total_zeros}
 use Rattle.policy.specs.Graphs.{Graph, Partners, Keeps, Stuck, InJoined, Weighs}
 use Rattle.policy.specs.Picked.{count, over}
 use Rattle.policy.proofs.Counting.{over_le, over_lt, over_const, flow}

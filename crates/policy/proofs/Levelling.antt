@@ -1,6 +1,6 @@
 -- Packets added until every load is the same.
-use Rattle.std.proofs.Common.{◌≡◌, ℕ, ◌+◌, ◌*◌, ◌<◌, ◌≤◌, cond, eqb, ◌⊎◌, sym, refl, ap, ◌∙◌, inl, inr, mul-zero, arith, below_more}
-use Rattle.std.proofs.lemmas.Bool.{cases_eq, cases_lt, ne_eqb}
+use Rattle.std.proofs.Common.{◌≡◌, ℕ, ◌+◌, ◌*◌, ◌<◌, ◌≤◌, cond, eqb, ◌⊎◌, sym, ap, ◌∙◌, inl, inr, mul-zero, arith, below_more}
+use Rattle.std.proofs.lemmas.Bool.{cases_lt, ne_eqb}
 use Rattle.crossbar.specs.Loads.{Counts, Critical, index, largest_load, load, more}
 use Rattle.crossbar.specs.Sums.{total}
 use Rattle.crossbar.specs.declared.port.Port.{Port}

@@ -1,8 +1,8 @@
 -- Moving inputs along a path of a search's tree, one at a time.
-use Rattle.std.proofs.Common.{◌≡◌, ℕ, zero, suc, ◌+◌, ◌<◌, ◌≤◌, Bool, true, false, ◌⊎◌, List, length, set, sym, refl, ap, ◌∙◌, subst, inl, inr, arith, get_or-set_other, get_or-set_same}
+use Rattle.std.proofs.Common.{◌≡◌, ℕ, ◌+◌, ◌<◌, ◌≤◌, true, false, List, length, set, sym, refl, ap, ◌∙◌, subst, inl, inr, arith, get_or-set_other, get_or-set_same}
 use Rattle.std.proofs.lemmas.Bool.{cases_eq, both_ways}
 use Rattle.mask.specs.declared.Mask.{Mask}
-use Rattle.policy.specs.Graphs.{Graph, Partners, partners, Keeps, InJoined, OutJoined}
+use Rattle.policy.specs.Graphs.{Graph, Partners, partners, Keeps, InJoined}
 use Rattle.mask.specs.Bits.{holds}
 use Rattle.policy.specs.Paths.{Tree, Ending, Mended, Held, Holds, Spare}
 

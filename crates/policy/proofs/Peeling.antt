@@ -1,8 +1,8 @@
 -- Why dropping the pairs without a packet leaves a lawful setting.
-use Rattle.std.proofs.Common.{◌≡◌, ℕ, ◌<◌, ◌≤◌, sym, refl, ap, ◌∙◌, subst, arith}
+use Rattle.std.proofs.Common.{◌≡◌, ◌<◌, ◌≤◌, ap, subst, arith}
 use Rattle.crossbar.specs.Clearing.{Lawful}
 use Rattle.crossbar.specs.Joining.{IsSetting, Joined, Joins}
-use Rattle.crossbar.specs.Loads.{Critical, index, largest_load, load}
+use Rattle.crossbar.specs.Loads.{Critical, index}
 use Rattle.crossbar.specs.Models.{largest_of, load_of, size, waiting}
 use Rattle.crossbar.specs.declared.demand.Demand.{Demand}
 use Rattle.crossbar.specs.declared.port.Port.{Port}

@@ -1,13 +1,13 @@
 -- A search in its course: what it has reached, and one output more.
-use Rattle.std.proofs.Common.{◌≡◌, ℕ, zero, suc, ◌+◌, ◌-◌, ◌<◌, ◌≤◌, Bool, true, false, cond, not, ◌&&◌, ltb, ◌⊎◌, List, length, get_or, set, sym, refl, ap, ◌∙◌, subst, inl, inr, arith, length-set, get_or-set_other, get_or-set_same, below_more}
-use Rattle.std.proofs.lemmas.Bool.{cases_eq, cases_lt, both_ways, cases_Bool, ltb-true, ltb-false, lt-ltb, le-ltb, and_parts, and_from, not-true, not-false, not_from_true, not_from_false}
+use Rattle.std.proofs.Common.{◌≡◌, ℕ, ◌+◌, ◌-◌, ◌<◌, ◌≤◌, Bool, true, false, cond, not, ◌&&◌, ltb, List, length, set, sym, ap, ◌∙◌, subst, inl, inr, arith, length-set, get_or-set_other, get_or-set_same, below_more}
+use Rattle.std.proofs.lemmas.Bool.{cases_eq, cases_lt, both_ways, cases_Bool, ltb-true, lt-ltb, and_parts, and_from, not-true, not_from_true, not_from_false}
 use Rattle.mask.specs.Bits.{holds}
 use Rattle.crossbar.proofs.Sums.{total_le}
 use Rattle.mask.specs.declared.Mask.{Mask}
 use Rattle.policy.specs.Picked.{count}
 use Rattle.policy.proofs.Counting.{total_lt, total_ones}
 use Rattle.policy.specs.Graphs.{Graph, Partners, Stuck}
-use Rattle.policy.specs.Paths.{Tree, Ending, Spare, Held, place}
+use Rattle.policy.specs.Paths.{Tree, Ending, Held, place}
 use Rattle.policy.specs.Searching.{Course, Reach, Row, seen}
 
 -- g is f with x at c, and what f has below c

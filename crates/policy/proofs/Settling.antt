@@ -1,5 +1,5 @@
 -- Filled from both sides, and what the partners are then.
-use Rattle.std.proofs.Common.{◌≡◌, ℕ, ◌+◌, ◌<◌, ◌≤◌, Bool, true, false, cond, ◌&&◌, ltb, Some, None, sym, refl, ap, ◌∙◌, subst, arith}
+use Rattle.std.proofs.Common.{◌≡◌, ℕ, ◌<◌, ◌≤◌, Bool, true, false, cond, ◌&&◌, ltb, Some, None, sym, refl, ap, ◌∙◌, subst, arith}
 use Rattle.std.proofs.lemmas.Bool.{and_from, and_left, and_parts, and_right, le-ltb, lt-ltb, ltb-true}
 use Rattle.crossbar.specs.Clearing.{Lawful}
 use Rattle.crossbar.specs.Joining.{IsSetting, Joined, Joins}
@@ -7,7 +7,7 @@ use Rattle.crossbar.specs.Loads.{Counts, Critical, largest_load, turned}
 use Rattle.crossbar.specs.declared.port.Port.{Port}
 use Rattle.crossbar.specs.declared.port.Port.TheVariants.{Input, Output}
 use Rattle.crossbar.proofs.Loads.{load_le}
-use Rattle.policy.specs.Graphs.{Graph, InJoined, Keeps, Once, OutJoined, Partners, Turned, Weighs}
+use Rattle.policy.specs.Graphs.{Graph, Keeps, Once, Partners, Turned, Weighs}
 use Rattle.policy.specs.Paths.{Full, Grown, Inverse}
 use Rattle.policy.specs.Settled.{Covers, Matched, joins_of}
 use Rattle.policy.proofs.Turning.{in_from_out, inverse_keeps, out_from_in, turned_back}

@@ -1,13 +1,13 @@
 -- The partners that mending starts from: the pairs of a setting that have a packet.
-use Rattle.std.proofs.Common.{◌≡◌, ℕ, ◌+◌, ◌<◌, ◌≤◌, Bool, true, false, cond, ◌&&◌, eqb, ltb, ◌⊎◌, List, length, set, replicate, Some, None, Option, sym, refl, ap, ◌∙◌, subst, inl, inr, arith}
+use Rattle.std.proofs.Common.{◌≡◌, ℕ, ◌+◌, ◌<◌, ◌≤◌, Bool, true, false, cond, ◌&&◌, ltb, List, length, set, replicate, Some, None, Option, sym, refl, ap, ◌∙◌, subst, inl, inr, arith}
 use mathlib.Core.Path.{fun_ext}
 use Rattle.std.proofs.lemmas.List.{get_or-replicate}
 use Rattle.std.proofs.lemmas.Bool.{cases_eq, cases_lt, eq-eqb, le-ltb, lt-ltb, ltb-true, ne_eqb}
 use Rattle.crossbar.proofs.Places.{grid_outside}
 use Rattle.crossbar.proofs.Serving.{below}
 use Rattle.crossbar.specs.Clearing.{Lawful}
-use Rattle.crossbar.specs.Joining.{IsSetting, Joined, Joins, with_pair}
-use Rattle.crossbar.specs.Loads.{Counts, Critical}
+use Rattle.crossbar.specs.Joining.{IsSetting, Joins, with_pair}
+use Rattle.crossbar.specs.Loads.{Counts}
 use Rattle.crossbar.specs.Models.{size, waiting}
 use Rattle.crossbar.specs.declared.demand.Demand.{Demand}
 use Rattle.crossbar.specs.declared.port.Port.TheVariants.{Input, Output}
@@ -15,10 +15,10 @@ use Rattle.policy.specs.Graphs.{Partners, partners}
 use Rattle.policy.specs.Mending.{if_waiting, with_packets}
 use Rattle.policy.specs.Paths.{Inverse}
 use Rattle.policy.specs.Settled.{Covers, Matched, joins_of}
-use Rattle.policy.proofs.Building.{below_more_none, below_more_some, below_none, below_tell}
+use Rattle.policy.proofs.Building.{below_more_some, below_none, below_tell}
 use Rattle.policy.proofs.Moves.{puts_set}
 use Rattle.policy.proofs.Settling.{joins_no, joins_past, joins_tell, joins_yes}
-use Rattle.policy.proofs.Turning.{empty_inverse, pairing_all, pairing_free}
+use Rattle.policy.proofs.Turning.{pairing_all, pairing_free}
 
 -- ---- the pairs with a packet
 

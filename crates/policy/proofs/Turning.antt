@@ -1,5 +1,5 @@
 -- Partners seen from either side.
-use Rattle.std.proofs.Common.{◌≡◌, ℕ, ◌<◌, ◌≤◌, ◌⊎◌, List, sym, refl, ap, ◌∙◌, subst, inl, inr, arith}
+use Rattle.std.proofs.Common.{◌≡◌, ℕ, ◌<◌, ◌≤◌, List, sym, ap, ◌∙◌, subst, inl, inr, arith}
 use Rattle.std.proofs.lemmas.Bool.{cases_eq}
 use Rattle.policy.specs.Graphs.{Graph, Partners, partners, Keeps, InJoined, OutJoined, Turned}
 use Rattle.policy.specs.Paths.{Inverse}

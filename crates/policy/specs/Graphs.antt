@@ -2,7 +2,7 @@
 use Rattle.std.specs.Prelude.{◌≡◌, ℕ, ◌<◌, ◌≤◌, Bool, true, List, ◌≢◌, nat_lt, slice_index, slice_index_or}
 use Rattle.crossbar.specs.Arrays.{no_ports}
 use Rattle.crossbar.specs.Loads.{Counts, load}
-use Rattle.crossbar.specs.declared.port.Port.TheVariants.{Input, Output}
+use Rattle.crossbar.specs.declared.port.Port.TheVariants.{Input}
 use Rattle.mask.specs.Bits.{holds}
 use Rattle.mask.specs.declared.Mask.{Mask}
 

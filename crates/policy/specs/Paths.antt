@@ -1,5 +1,5 @@
 -- The tree of a search along alternating paths, and what mending along one of its paths gives.
-use Rattle.std.specs.Prelude.{◌≡◌, ℕ, ◌+◌, ◌<◌, ◌≤◌, Bool, true, false, List, ◌≢◌, slice_index}
+use Rattle.std.specs.Prelude.{◌≡◌, ℕ, ◌+◌, ◌<◌, ◌≤◌, true, false, List, ◌≢◌, slice_index}
 use Rattle.mask.specs.Bits.{holds}
 use Rattle.mask.specs.declared.Mask.{Mask}
 use Rattle.policy.specs.Graphs.{Graph, Partners, Keeps, InJoined, OutJoined}

@@ -1,5 +1,5 @@
 -- A search in its course: what it has reached so far.
-use Rattle.std.specs.Prelude.{◌≡◌, ℕ, ◌+◌, ◌<◌, ◌≤◌, Bool, true, false, not, List, length}
+use Rattle.std.specs.Prelude.{◌≡◌, ℕ, ◌+◌, ◌<◌, ◌≤◌, Bool, true, not, List, length}
 use Rattle.mask.specs.Bits.{holds}
 use Rattle.mask.specs.declared.Mask.{Mask}
 use Rattle.policy.specs.Graphs.{Graph, Partners}

@@ -1,5 +1,5 @@
 -- Partners in a demand: pairs with packets, the critical ports joined, and the setting that they are.
-use Rattle.std.specs.Prelude.{◌≡◌, ℕ, ◌<◌, ◌≤◌, cond, ◌&&◌, ltb, Some, None, nat_lt}
+use Rattle.std.specs.Prelude.{ℕ, ◌<◌, ◌≤◌, cond, ◌&&◌, ltb, Some, None, nat_lt}
 use Rattle.crossbar.specs.Joining.{Joins}
 use Rattle.crossbar.specs.Loads.{Counts, Critical}
 use Rattle.crossbar.specs.declared.port.Port.TheVariants.{Input, Output}

@@ -1,5 +1,5 @@
 -- A refused packet leaves the batch as it was, and tells why.
-use Rattle.std.proofs.Common.{◌≡◌, ℕ, ◌<◌, true, is_some, Some, None, Option, sym, refl, ap, ◌∙◌, subst, arith}
+use Rattle.std.proofs.Common.{◌≡◌, ℕ, ◌<◌, is_some, Some, None, Option, sym, refl, ap, ◌∙◌, subst, arith}
 use Rattle.batch.specs.Calls.{Took}
 use Rattle.batch.specs.Models.{gathered, refusal_in}
 use Rattle.batch.specs.Rules.{taken_unless}
@@ -7,7 +7,7 @@ use Rattle.batch.specs.declared.gathering.Gathering.{Gathering}
 use Rattle.crossbar.specs.Loads.{one_more}
 use Rattle.readout.specs.Readouts.{Grown, ReadOut}
 use Rattle.readout.specs.declared.Readout.{Readout}
-use Rattle.reply.specs.Answers.{Answer, answer, done, refused}
+use Rattle.reply.specs.Answers.{answer, refused}
 use Rattle.reply.specs.declared.Reply.{Reply}
 use Rattle.reply.specs.declared.reason.Reason.{Reason}
 use Rattle.std.proofs.lemmas.Bool.Decides.{when_true}

@@ -1,12 +1,12 @@
 -- Answers since a turn do not depend on what came before.
-use Rattle.std.proofs.Common.{◌≡◌, ℕ, suc, ◌+◌, ◌/◌, ◌%◌, ◌<◌, ◌≤◌, Bool, true, false, cond, eqb, ltb, ◌⊎◌, List, [], ◌∷◌, ◌++◌, length, sym, refl, ap, ◌∙◌, ap₂, inl, inr, mod-lt, arith}
+use Rattle.std.proofs.Common.{◌≡◌, ℕ, suc, ◌+◌, ◌/◌, ◌%◌, ◌<◌, ◌≤◌, Bool, true, false, cond, eqb, ltb, [], ◌∷◌, ◌++◌, length, sym, refl, ap, ◌∙◌, ap₂, inl, inr, mod-lt, arith}
 use mathlib.Core.Path.{fun_ext}
 use native.Mathlib.Nat.{zero-mod}
 use Rattle.std.proofs.lemmas.Bool.{cases_lt, cases_Bool, ne_eqb, eq-eqb}
 use Rattle.reply.specs.Answers.{Answer, done, refused}
 use Rattle.reply.specs.declared.reason.Reason.TheVariants.{ListTooShort, LeftOver}
 use Rattle.service.specs.Histories.{Event, offer, group, trial, slot, question, History, is_done, accepts, slot_done, slots, period, within, left_of, of_period, gathering, clearing, Turned, answers, SameCall, offers, groups, trials, slots_of, questions, SameCalls, none, more}
-use Rattle.service.specs.Law.{ByTable, Law}
+use Rattle.service.specs.Law.{ByTable}
 use Rattle.service.specs.Tables.{verdict, late}
 use Rattle.service.specs.Theorems.{Independent}
 use Rattle.service.proofs.Told.{none_later, Replies, NeverLate, all_replies, never_late}

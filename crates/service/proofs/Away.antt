@@ -1,11 +1,10 @@
 -- Out of service nothing happens.
-use Rattle.std.proofs.Common.{◌≡◌, ℕ, ◌+◌, Bool, true, false, cond, List, [], ◌∷◌, ◌++◌, length, refl, ap, ◌∙◌, arith}
+use Rattle.std.proofs.Common.{◌≡◌, ℕ, Bool, true, false, cond, List, [], ◌∷◌, ◌++◌, length, refl, ap, ◌∙◌, arith}
 use Rattle.std.proofs.lemmas.List.{append-nil}
 use Rattle.reply.specs.Answers.{Answer, refused, place_of}
 use Rattle.reply.specs.declared.reason.Reason.TheVariants.{OutOfService}
-use Rattle.service.specs.Histories.{Event, offer, group, trial, slot, question, History, is_done, slots, period, accepts, departs, slot_done, accepted, departed, taken, sent, counted_in, counted_out, of_pair}
-use Rattle.service.specs.Models.{Model}
-use Rattle.service.specs.Outside.{Away, AllAway, Quiet, Service}
+use Rattle.service.specs.Histories.{Event, offer, group, trial, slot, question, History, is_done, period, accepts, departs, slot_done, accepted, counted_in, counted_out, of_pair}
+use Rattle.service.specs.Outside.{Away, Quiet}
 use Rattle.service.specs.Theorems.{Goes_on}
 use Rattle.service.proofs.Onward.{carries}
 

@@ -1,5 +1,5 @@
 -- What is kept, carried on by one event.
-use Rattle.std.proofs.Common.{◌≡◌, ℕ, zero, suc, ◌+◌, ◌-◌, ◌<◌, ◌≤◌, min, Bool, true, false, cond, ◌&&◌, eqb, ltb, ◌⊎◌, List, [], ◌∷◌, ◌++◌, length, take, drop, sym, refl, ap, ◌∙◌, subst, inl, inr, arith, length-drop}
+use Rattle.std.proofs.Common.{◌≡◌, ℕ, zero, suc, ◌-◌, ◌<◌, ◌≤◌, min, Bool, true, false, cond, ◌&&◌, eqb, ltb, ◌⊎◌, List, [], ◌∷◌, ◌++◌, length, take, drop, sym, refl, ap, ◌∙◌, subst, inl, inr, arith, length-drop}
 use mathlib.Core.Path.{fun_ext}
 use Rattle.std.proofs.lemmas.Bool.{cases_lt, cases_eq, ne_eqb, eq-eqb, le-ltb, lt-ltb}
 use Rattle.std.proofs.lemmas.List.{append-nil, append_assoc, take-append-drop}
@@ -9,7 +9,7 @@ use Rattle.crossbar.specs.Clearing.{Lawful, served}
 use Rattle.crossbar.specs.Joining.{Joins, joined}
 use Rattle.crossbar.specs.Loads.{largest_load}
 use Rattle.service.specs.Models.{Queues, Model, counts, made}
-use Rattle.service.proofs.Every.{JoinedAll, LeftAll, TurnsAll}
+use Rattle.service.proofs.Every.{LeftAll, TurnsAll}
 use Rattle.service.proofs.Kept.{Kept, due_by}
 
 pub empty_of : {T : Type 0} (xs : List T) → length xs ≡ 0 → xs ≡ []

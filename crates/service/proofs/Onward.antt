@@ -1,5 +1,5 @@
 -- Every call carries a stretch on.
-use Rattle.std.proofs.Common.{◌≡◌, ℕ, zero, suc, ◌+◌, ◌<◌, ◌≤◌, Bool, true, false, cond, eqb, ◌⊎◌, List, [], ◌∷◌, ◌++◌, map, length, take, drop, Some, None, MatchBool, Option, sym, refl, ap, ◌∙◌, subst, inl, inr, arith, length-append}
+use Rattle.std.proofs.Common.{◌≡◌, ℕ, zero, suc, ◌+◌, ◌<◌, ◌≤◌, true, false, cond, eqb, List, [], ◌∷◌, ◌++◌, map, length, take, drop, Some, None, MatchBool, Option, sym, refl, ap, ◌∙◌, subst, inl, inr, arith, length-append}
 use mathlib.Core.Path.{fun_ext}
 use native.Mathlib.Nat.{zero-div, zero-mod}
 use Rattle.std.proofs.lemmas.Bool.{eqb-true}

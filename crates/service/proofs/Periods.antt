@@ -1,5 +1,5 @@
 -- One slot more within a period, and at its end.
-use Rattle.std.proofs.Common.{◌≡◌, ℕ, zero, suc, ◌+◌, ◌*◌, ◌/◌, ◌%◌, ◌<◌, ◌≤◌, sym, refl, ap, ◌∙◌, mod-lt, add-mul, div-add-mod', arith}
+use Rattle.std.proofs.Common.{◌≡◌, ℕ, suc, ◌+◌, ◌*◌, ◌/◌, ◌%◌, ◌<◌, sym, ap, ◌∙◌, add-mul, div-add-mod', arith}
 use lib.Arith.{digits_div, digits_mod}
 
 pub whole : (s l : ℕ) → s ≡ s / l * l + s % l

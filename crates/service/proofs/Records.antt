@@ -1,15 +1,14 @@
 -- The records of a slot, pair by pair.
-use Rattle.std.proofs.Common.{◌≡◌, ℕ, zero, suc, ◌<◌, ◌≤◌, Bool, true, false, cond, ◌&&◌, eqb, ◌⊎◌, List, [], ◌∷◌, ◌++◌, map, length, take, Some, None, Option, sym, refl, ap, ◌∙◌, subst, inl, inr, arith}
+use Rattle.std.proofs.Common.{◌≡◌, ℕ, zero, suc, ◌<◌, ◌≤◌, Bool, true, false, cond, ◌&&◌, eqb, List, [], ◌∷◌, ◌++◌, map, length, take, Some, None, Option, sym, refl, ap, ◌∙◌, subst, inl, inr, arith}
 use Rattle.std.proofs.lemmas.List.{append-nil, append_assoc}
 use Rattle.std.proofs.lemmas.Bool.{and_left, and_right, cases_eq, cases_lt, eq-eqb, eqb-true, ne_eqb}
 use Rattle.std.specs.Option.{option_map, option_to_list}
-use Rattle.crossbar.proofs.Clearing.{joined_has, joined_le, lowered}
+use Rattle.crossbar.proofs.Clearing.{joined_has, lowered}
 use Rattle.crossbar.proofs.Loads.{load_le, loads_le, none_waits}
 use Rattle.crossbar.proofs.Sums.{total_le}
 use Rattle.crossbar.specs.Clearing.{Lawful, served}
 use Rattle.crossbar.specs.Joining.{IsSetting, Joins, is_input, joined, pairs_below}
-use Rattle.crossbar.specs.Loads.{index, largest_load, load}
-use Rattle.crossbar.specs.declared.port.Pair.{Pair}
+use Rattle.crossbar.specs.Loads.{largest_load, load}
 use Rattle.crossbar.specs.declared.port.Port.{Port}
 use Rattle.crossbar.specs.declared.port.Port.TheVariants.{Input, Output}
 use Rattle.service.specs.Histories.{of_pair}

@@ -1,5 +1,5 @@
 -- One event more of a history.
-use Rattle.std.proofs.Common.{◌≡◌, ℕ, zero, suc, ◌+◌, ◌-◌, ◌*◌, ◌/◌, ◌%◌, ◌<◌, ◌≤◌, min, Bool, true, false, cond, ◌&&◌, eqb, ltb, ◌⊎◌, List, [], ◌∷◌, ◌++◌, length, take, MatchBool, sym, refl, ap, ◌∙◌, subst, inl, inr, mul-le-mul_right, mod-lt, add-mul, arith, length-append}
+use Rattle.std.proofs.Common.{◌≡◌, ℕ, zero, suc, ◌+◌, ◌-◌, ◌*◌, ◌/◌, ◌%◌, ◌<◌, ◌≤◌, min, Bool, true, false, cond, eqb, ltb, ◌⊎◌, List, [], ◌∷◌, ◌++◌, length, take, MatchBool, sym, refl, ap, ◌∙◌, subst, inl, inr, mul-le-mul_right, mod-lt, add-mul, arith, length-append}
 use mathlib.Core.Path.{fun_ext}
 use Rattle.std.proofs.lemmas.Bool.{cases_lt, cases_eq, cases_order, ne_eqb, eqb-true, eqb-false, le-ltb, and_left, and_right, false≢true}
 use Rattle.std.proofs.lemmas.List.{append-nil, append_assoc}

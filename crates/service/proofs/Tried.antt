@@ -6,7 +6,7 @@ use Rattle.crossbar.specs.Loads.{Critical, largest_load}
 use Rattle.crossbar.specs.Sums.{largest, total}
 use Rattle.crossbar.specs.declared.port.Port.{Port}
 use Rattle.crossbar.specs.declared.port.Port.TheVariants.{Input, Output}
-use Rattle.reply.specs.Answers.{Answer, code, done, place_of}
+use Rattle.reply.specs.Answers.{code, done, place_of}
 use Rattle.service.specs.Cases.{RuledOut, ComesAbout, at, join, idle_slot, served_well}
 use Rattle.service.specs.Histories.{of_pair, offer, slot}
 use Rattle.service.specs.Models.{Model, made, counts, Stretch}

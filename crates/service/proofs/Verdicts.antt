@@ -2,13 +2,13 @@
 use Rattle.std.proofs.Common.{◌≡◌, ℕ, suc, ◌+◌, ◌<◌, ◌≤◌, Bool, true, false, cond, ◌&&◌, eqb, ◌⊎◌, List, [], ◌∷◌, ◌++◌, length, Some, None, Option, sym, refl, ap, ◌∙◌, subst, inl, inr, arith}
 use mathlib.Core.Path.{fun_ext}
 use Rattle.std.proofs.lemmas.Bool.{and_parts, eqb-true, false≢true}
-use Rattle.batch.proofs.Bounds.{Taken, taken}
+use Rattle.batch.proofs.Bounds.{taken}
 use Rattle.batch.specs.Rules.{refusal}
 use Rattle.crossbar.proofs.Loads.{load_plus, more_within, packets_single}
 use Rattle.crossbar.proofs.Sums.{total_add, total_same, total_zeros}
 use Rattle.crossbar.specs.Loads.{Counts, largest_load, load, one_more, packets, single}
 use Rattle.crossbar.specs.declared.port.Port.TheVariants.{Input}
-use Rattle.reply.specs.Answers.{Answer, done, refused, place_of}
+use Rattle.reply.specs.Answers.{Answer, place_of}
 use Rattle.reply.specs.declared.reason.Reason.{Reason}
 use Rattle.service.specs.Histories.{is_done, of_pair}
 use Rattle.service.specs.Tables.{unless, verdict}

@@ -1,5 +1,5 @@
 -- Histories that no switch may have, and one that it has.
-use Rattle.std.specs.Prelude.{◌≡◌, ℕ, zero, suc, List, [], ◌∷◌, Some, None}
+use Rattle.std.specs.Prelude.{◌≡◌, ℕ, zero, suc, [], ◌∷◌, Some, None}
 use Rattle.crossbar.specs.Joining.{Joins, unjoined}
 use Rattle.reply.specs.Answers.{done, refused}
 use Rattle.reply.specs.declared.reason.Reason.TheVariants.{InputFull, ListTooShort}

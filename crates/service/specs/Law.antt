@@ -1,7 +1,7 @@
 -- The law of a stretch of service: what holds of every history that comes about on a switch in service.
-use Rattle.std.specs.Prelude.{◌≡◌, ℕ, suc, ◌+◌, ◌-◌, ◌*◌, ◌≤◌, min, Bool, true, false, cond, List, [], ◌∷◌, ◌++◌, map, length}
+use Rattle.std.specs.Prelude.{◌≡◌, ℕ, suc, ◌+◌, ◌-◌, ◌*◌, ◌≤◌, min, false, cond, List, [], ◌∷◌, ◌++◌, map, length}
 use Rattle.crossbar.specs.Clearing.{NoFewer}
-use Rattle.crossbar.specs.Joining.{Joins, pairs_below}
+use Rattle.crossbar.specs.Joining.{pairs_below}
 use Rattle.crossbar.specs.Loads.{largest_load, packets}
 use Rattle.crossbar.specs.declared.port.Pair.{Pair}
 use Rattle.service.specs.Histories.{Event, offer, group, trial, slot, question, History, is_done, slots, period, within, left_of, of_period, before_period, of_all, departed, period_demand, due, gathering, clearing, last_departure, taken, sent}

@@ -1,5 +1,5 @@
 -- A switch out of service: every call is refused, and nothing else happens.
-use Rattle.std.specs.Prelude.{◌≡◌, ℕ, Bool, List, [], ◌∷◌, MatchBool}
+use Rattle.std.specs.Prelude.{◌≡◌, ℕ, Bool, [], ◌∷◌, MatchBool}
 use Rattle.reply.specs.Answers.{refused}
 use Rattle.reply.specs.declared.reason.Reason.TheVariants.{OutOfService}
 use Rattle.service.specs.Histories.{Event, offer, group, trial, slot, question, History, slots, accepted, departed, taken, sent}

@@ -1,5 +1,5 @@
 -- The theorems of a stretch of service.
-use Rattle.std.specs.Prelude.{◌≡◌, ℕ, ◌≤◌, Bool, List, [], ◌∷◌, ◌++◌, MatchBool}
+use Rattle.std.specs.Prelude.{◌≡◌, ℕ, ◌≤◌, Bool, [], ◌∷◌, ◌++◌, MatchBool}
 use Rattle.service.specs.Histories.{Event, History, Turned, SameCalls, answers}
 use Rattle.service.specs.Law.{Law}
 use Rattle.service.specs.Models.{Model, made, Ported, Step, Stretch}

@@ -1,4 +1,3 @@
-use Rattle.std.proofs.Common.{◌≤◌}
 use Rattle.readout.specs.Readouts.{Grown}
 use Rattle.readout.proofs.gather.Given as goal
 

@@ -1,4 +1,4 @@
-use Rattle.std.proofs.Common.{◌<◌, sym, refl, arith}
+use Rattle.std.proofs.Common.{◌<◌, arith}
 use Rattle.std.proofs.lemmas.Bool.{false≢true}
 use Rattle.policy.specs.Kernel.{graph_of}
 use Rattle.policy.proofs.Filling.{filled_best, filled_critical, filled_mend, filled_same, filled_skip, grown_same, not_full, spare_same}

@@ -1,4 +1,4 @@
-use Rattle.std.proofs.Common.{◌≡◌, ap, ◌∙◌, arith}
+use Rattle.std.proofs.Common.{ap, ◌∙◌, arith}
 use Rattle.crossbar.proofs.Joins.{setting_rule}
 use Rattle.crossbar.specs.Models.{input_at, size, waiting}
 use Rattle.policy.specs.Graphs.{partners}

@@ -1,4 +1,4 @@
-use Rattle.std.proofs.Common.{◌≡◌, ◌<◌, ◌≤◌, length, Some, sym, refl, ap, ◌∙◌, subst, arith, length-set}
+use Rattle.std.proofs.Common.{◌≡◌, ◌<◌, ◌≤◌, length, Some, sym, refl, ap, ◌∙◌, arith, length-set}
 use Rattle.crossbar.proofs.Joins.{setting_rule}
 use Rattle.crossbar.proofs.Serving.{below}
 use Rattle.crossbar.specs.Models.{input_at, size, waiting}

@@ -1,5 +1,4 @@
-use Rattle.std.proofs.Common.{◌≡◌, ◌<◌, ap, ◌∙◌, arith}
-use Rattle.crossbar.specs.Joining.{IsSetting}
+use Rattle.std.proofs.Common.{◌≡◌, ap, ◌∙◌, arith}
 use Rattle.crossbar.specs.Models.{input_at}
 use Rattle.crossbar.proofs.Serving.{below}
 use Rattle.policy.specs.Graphs.{partners}

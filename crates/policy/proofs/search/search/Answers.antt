@@ -1,6 +1,5 @@
-use Rattle.std.proofs.Common.{◌≡◌, sym, refl, ◌∙◌, arith, rules}
+use Rattle.std.proofs.Common.{sym, refl, ◌∙◌, arith, rules}
 use Rattle.std.proofs.lemmas.Bool.{and_parts}
-use Rattle.policy.specs.Paths.{place}
 use Rattle.policy.specs.Searching.{seen}
 use Rattle.policy.proofs.Reach.{course_end, course_found, course_low, tree_input}
 use Rattle.policy.proofs.search.search.Goals as goal

@@ -1,5 +1,4 @@
-use Rattle.std.proofs.Common.{◌≡◌, ℕ, ◌+◌, ◌-◌, ◌<◌, ◌≤◌, length, sym, ap, ◌∙◌, subst, arith, length-set}
-use Rattle.policy.specs.Graphs.{partners}
+use Rattle.std.proofs.Common.{◌≡◌, ℕ, ◌+◌, ◌-◌, ◌<◌, ◌≤◌, sym, ap, ◌∙◌, subst, arith, length-set}
 use Rattle.policy.specs.Kernel.{graph_of}
 use Rattle.policy.specs.Paths.{place}
 use Rattle.policy.proofs.Moves.{holding_next, holding_none, holding_put, moving_all, moving_more, moving_none, puts_set}

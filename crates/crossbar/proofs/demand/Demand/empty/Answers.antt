@@ -1,6 +1,6 @@
-use Rattle.std.proofs.Common.{◌≡◌, ℕ, ◌≤◌, replicate, sym, refl, ap, ◌∙◌, arith}
-use Rattle.crossbar.specs.Arrays.{grid, Holds}
-use Rattle.crossbar.specs.Loads.{load, largest_load, nothing, turned}
+use Rattle.std.proofs.Common.{◌≡◌, ℕ, replicate, sym, refl, ap, ◌∙◌, arith}
+use Rattle.crossbar.specs.Arrays.{grid}
+use Rattle.crossbar.specs.Loads.{load, nothing, turned}
 use Rattle.crossbar.specs.declared.port.Port.{Port}
 use Rattle.crossbar.specs.declared.port.Port.TheVariants.{Input, Output}
 use Rattle.crossbar.proofs.Loads.{load_zeros, loads_le}

@@ -1,4 +1,4 @@
-use Rattle.std.proofs.Common.{◌≡◌, ℕ, ◌+◌, ◌*◌, Bool, cond, ◌&&◌, eqb, ltb, get_or, set, sym, refl, ap, ◌∙◌, subst, arith}
+use Rattle.std.proofs.Common.{◌≡◌, ℕ, ◌+◌, Bool, cond, ◌&&◌, eqb, ltb, get_or, set, sym, refl, ap, ◌∙◌, subst, arith}
 use Rattle.crossbar.specs.Arrays.{grid, no_ports}
 use Rattle.crossbar.proofs.Changing.{Masked, Sound, cell_le, grid_more, masked_of, masked_set, sound_more, sound_of}
 use Rattle.crossbar.proofs.Room.{room_from_test}

@@ -1,4 +1,4 @@
-use Rattle.std.proofs.Common.{◌≡◌, ℕ, get_or, replicate, Some, None, Option, refl, arith}
+use Rattle.std.proofs.Common.{◌≡◌, ℕ, get_or, replicate, None, Option, refl, arith}
 use Rattle.crossbar.specs.Arrays.{Mirrors}
 use Rattle.crossbar.proofs.Places.{same_everywhere}
 use Rattle.crossbar.proofs.setting.Setting.empty.Goals as goal

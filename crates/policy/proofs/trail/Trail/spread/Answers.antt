@@ -1,15 +1,13 @@
-use Rattle.std.proofs.Common.{◌≡◌, ℕ, ◌+◌, ◌<◌, ◌≤◌, true, ◌&&◌, List, set, sym, refl, ap, ◌∙◌, subst, arith}
-use Rattle.mask.specs.Bits.{holds}
+use Rattle.std.proofs.Common.{ℕ, ◌+◌, set, sym, ◌∙◌, subst, arith}
 use Rattle.mask.specs.declared.Mask.{Mask}
 use Rattle.std.proofs.lemmas.Bool.{and_parts}
 use Rattle.policy.specs.Graphs.{Graph, Partners, partners}
-use Rattle.policy.specs.Kernel.{InRow, Pushed, graph_of}
+use Rattle.policy.specs.Kernel.{Pushed, graph_of}
 use Rattle.policy.specs.Paths.{place}
 use Rattle.policy.specs.Searching.{Row}
-use Rattle.crossbar.specs.declared.side.Side.{Side}
 use Rattle.policy.specs.declared.trail.Trail.{Trail}
 use Rattle.policy.proofs.Removing.{cleared, others_stay}
-use Rattle.policy.proofs.Reach.{course_space, row_end, row_low, row_more}
+use Rattle.policy.proofs.Reach.{course_space, row_end, row_more}
 use Rattle.policy.proofs.trail.Trail.spread.Goals as goal
 
 -- a row of a trail to which one output was pushed
