@@ -101,7 +101,13 @@ impl Demand {
         if !self.has_room(pair) {
             return false;
         }
-        self.put(pair, 1);
+        self.counts[cell_of(pair)] += 1;
+        self.inputs[pair.input as usize] += 1;
+        self.outputs[pair.output as usize] += 1;
+        self.rows[pair.input as usize] = self.rows[pair.input as usize].set(pair.output, true);
+        self.columns[pair.output as usize] = self.columns[pair.output as usize].set(
+            pair.input, true,
+        );
         true
     }
 
