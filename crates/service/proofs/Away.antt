@@ -5,7 +5,7 @@ use Rattle.reply.specs.Answers.{Answer, refused, place_of}
 use Rattle.reply.specs.declared.reason.Reason.TheVariants.{OutOfService}
 use Rattle.service.specs.Histories.{Event, offer, group, trial, slot, question, History, is_done, period, accepts, departs, slot_done, accepted, counted_in, counted_out, of_pair}
 use Rattle.service.specs.Outside.{Away, Quiet}
-use Rattle.service.specs.Theorems.{Goes_on}
+use Rattle.service.specs.Theorems.{GoesOn}
 use Rattle.service.proofs.Onward.{carries}
 
 off : (r : Answer) → r ≡ refused OutOfService 0 → is_done r ≡ false
@@ -39,6 +39,6 @@ module _ {T : Type 0} where
       (ap (λ b. cond b (length ds) 0) (off r w.0))
   away h (question a r) q w = still h (question a r) q (λ i j. refl) (λ i j. refl) refl refl refl
 
-  pub goes_on : Goes_on T
+  pub goes_on : GoesOn T
   goes_on true n l h m m' e o st w = carries n l h m m' e o st w
   goes_on false n l h m m' e o st w = ((w.0, st.0), away h e st.1 w.0)

@@ -10,8 +10,8 @@ abbrev pub Begins : Type 0 → Type 0
 Begins T = (n l : ℕ) → 1 ≤ n → n ≤ 16 → 1 ≤ l → l ≤ 1024 → Stretch {T = T} n l [] (made l)
 
 -- whatever call is done as it should be, in service or not, carries a stretch on, and with it the law
-abbrev pub Goes_on : Type 0 → Type 0
-Goes_on T =
+abbrev pub GoesOn : Type 0 → Type 0
+GoesOn T =
     (in_service : Bool) (n l : ℕ) (h : History T) (m m' : Model T) (e : Event T) → Ported n m' → Service in_service n l h m → MatchBool in_service (Step n l m e m') (Away e × (m' ≡ m)) → Service in_service n l (e ∷ h) m'
 
 -- since a turn in each of two stretches with the same calls the answers to offers, groups and trials are the same

@@ -1,6 +1,6 @@
 //! The theorems of a stretch of service, each on the contract of a function that does nothing else.
 ghost use Rattle.service.specs.Cases.{ComesAbout, RuledOut};
-ghost use Rattle.service.specs.Theorems.{Begins, Goes_on, Independent};
+ghost use Rattle.service.specs.Theorems.{Begins, GoesOn, Independent};
 
 /// A theorem that was proved; there is nothing in it to run.
 #[derive(Clone, Copy)]
@@ -15,7 +15,7 @@ pub fn begins<T>() -> Proved
 
 /// Whatever call is done as it should be carries a stretch on, and with it the law.
 pub fn goes_on<T>() -> Proved
-    ensures { Goes_on T }
+    ensures { GoesOn T }
 {
     Proved
 }
