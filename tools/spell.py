@@ -1,8 +1,8 @@
 #!/usr/bin/env python3
 """Spells the repository's own definitions and lemmas as today's Rattle does: words in snake case, types in camel case.
 
-Run once, at the top, after the kit's porting script. It takes the names that have a dash or a prime from what specs/
-and proofs/ define, respells each token that is one of them in .antt files and in the clauses of .rt files, and says
+Run once, at the top, after the kit's porting script. It takes the names with a dash from what specs/ and proofs/
+define, respells each token that is one of them in .antt and .rt files (there, no name of code has a dash), and says
 where a new spelling falls together with a name that a file already has. Strings and the text of comments stay.
 """
 import glob

@@ -11,15 +11,10 @@ mod plan;
 mod report;
 mod words;
 
-fn main(rt: HostRuntime) -> anyhow::Result<()> {
-    run(&rt)
-}
-
-fn run(rt: &HostRuntime) -> anyhow::Result<()> {
-    let method = method::read(rt)?;
+fn main(rt: HostRuntime) -> io::Result<()> {
+    let method = method::read(&rt)?;
     let heap = rt.alloc();
     let text = io::read_to_string(heap, rt.stdin())?;
     let plan = plan::read(heap, text.as_str())?;
-    report::print(rt, &plan, method)?;
-    Ok(())
+    report::print(&rt, &plan, method)
 }

@@ -1,6 +1,5 @@
 //! The policy that the command line names.
-use anyhow::anyhow;
-use std::env;
+use std::{env, io};
 
 /// How the settings are chosen.
 #[derive(Clone, Copy)]
@@ -9,20 +8,20 @@ pub(crate) enum Method {
     Peeling,
 }
 
-/// The policy that the first word of the command line names, if there is one.
-pub(crate) fn read(rt: &HostRuntime) -> anyhow::Result<Option<Method>> {
+/// The policy that the first word of the command line names, if it names one.
+pub(crate) fn read(rt: &HostRuntime) -> io::Result<Option<Method>> {
     let mut words = env::args(rt)?;
     let _program = words.next();
     match words.next() {
-        Some(word) => Ok(Some(named(word.as_str())?)),
+        Some(word) => Ok(named(word.as_str())),
         None => Ok(None),
     }
 }
 
-fn named(word: &str) -> anyhow::Result<Method> {
+fn named(word: &str) -> Option<Method> {
     match word {
-        "path" => Ok(Method::Path),
-        "peeling" => Ok(Method::Peeling),
-        _ => Err(anyhow!("the policy is `path` or `peeling`")),
+        "path" => Some(Method::Path),
+        "peeling" => Some(Method::Peeling),
+        _ => None,
     }
 }

@@ -1,5 +1,5 @@
 -- Partners in a demand: pairs with packets, the critical ports joined, and the setting that they are.
-use Rattle.std.specs.Prelude.{ℕ, ◌<◌, ◌≤◌, cond, ◌&&◌, ltb, Some, None, nat_lt}
+use Rattle.std.specs.Prelude.{ℕ, ◌<◌, ◌≤◌, cond, ◌&&◌, Some, None, nat_lt}
 use Rattle.crossbar.specs.Joining.{Joins}
 use Rattle.crossbar.specs.Loads.{Counts, Critical}
 use Rattle.crossbar.specs.declared.port.Port.TheVariants.{Input, Output}
@@ -18,7 +18,7 @@ pub record Covers (n : ℕ) (c : Counts) (s : Partners) : Type 0 where
 
 -- how many outputs have a partner
 abbrev pub partnered : ℕ → Partners → ℕ
-partnered n s = count n (λ j. ltb (s j) n)
+partnered n s = count n (λ j. nat_lt (s j) n)
 
 -- the input of each output, where both are below n
 abbrev pub joins_of : ℕ → Partners → Joins

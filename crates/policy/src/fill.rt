@@ -1,8 +1,8 @@
 //! Joining every port of one side that has a large load.
-ghost use Rattle.std.specs.Prelude.{◌≡◌, ℕ, ◌<◌, ◌≤◌, Bool, true, false, Some, None, ◌≢◌};
+ghost use Rattle.std.specs.Prelude.{◌≡◌, ℕ, ◌<◌, ◌≤◌, true, false, Some, None, ◌≢◌};
 ghost use Rattle.crossbar.specs.Loads.{Counts, load};
 ghost use Rattle.crossbar.specs.declared.port.Port.TheVariants.{Output};
-ghost use Rattle.policy.specs.Graphs.{Keeps, Partners, Stuck, Weighs, partners};
+ghost use Rattle.policy.specs.Graphs.{Keeps, Partners, Weighs, partners};
 ghost use Rattle.policy.specs.Kernel.{JoinedOne, graph_of};
 ghost use Rattle.policy.specs.Paths.{Full, Grown, Inverse, Spare};
 

@@ -1,5 +1,5 @@
 //! Why a call may be refused: the reasons, with the number and the layer of each.
-ghost use Rattle.reply.specs.Table.{layer as layerOf, number as number_of};
+ghost use Rattle.reply.specs.Table.{layer as layer_of, number as number_of};
 ghost use Rattle.std.specs.Prelude.{◌≡◌};
 
 /// Which layer gave a refusal.
@@ -68,7 +68,7 @@ impl Reason {
 
     /// The layer that gives the reason.
     pub fn layer(self) -> Layer
-        ensures { result ≡ layerOf self }
+        ensures { result ≡ layer_of self }
     {
         match self {
             Reason::OutOfService | Reason::ListTooShort | Reason::LeftOver => Layer::Switch,
