@@ -50,7 +50,7 @@ module _ (n : ℕ) (d : Graph) (s : Partners) (w start : ℕ) (q : ℕ → Bool)
   p_all P h k i e =
       elim ((decides_reached n s start q i).0 e) [
         | inl r ↦ subst P (sym r) h
-        | inr r ↦ subst P r.2.1 (k r.0 r.1 r.2.0)
+        | inr (j, l, (picked, same)) ↦ subst P same (k j l picked)
       ]
 
   p_closed : (i j : ℕ) → i < n → j < n → p i ≡ true → d.link i j ≡ true → q j ≡ true
