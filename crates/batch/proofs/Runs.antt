@@ -9,8 +9,7 @@ use Rattle.crossbar.specs.Loads.{Counts}
 use Rattle.crossbar.specs.Models.{input_at, size}
 use Rattle.crossbar.specs.declared.ports.Ports.{Ports}
 use Rattle.crossbar.specs.declared.setting.Setting.{Setting}
-use Rattle.reply.specs.Answers.{answer, done}
-use Rattle.reply.specs.declared.Reply.{Reply}
+use Rattle.reply.specs.Answers.{Reply, answer, done}
 use Rattle.batch.specs.Calls.{Run, SlotDone}
 use Rattle.batch.specs.Models.{slots_left, to_clear}
 use Rattle.batch.specs.declared.clearing.Clearing.{Clearing}

@@ -6,8 +6,7 @@ use Rattle.crossbar.specs.Loads.{nothing, one_more, packets as packets_of}
 use Rattle.crossbar.specs.Models.{input_at, size}
 use Rattle.crossbar.specs.declared.port.Pair.{Pair}
 use Rattle.crossbar.specs.declared.setting.Setting.{Setting}
-use Rattle.reply.specs.Answers.{answer, done, refused}
-use Rattle.reply.specs.declared.Reply.{Reply}
+use Rattle.reply.specs.Answers.{Reply, answer, done, refused}
 use Rattle.reply.specs.declared.reason.Reason.TheVariants.{NoSlotsLeft}
 use Rattle.batch.specs.Models.{gathered, ports_of, refusal_in, slots_left, slots_of, to_clear}
 use Rattle.batch.specs.Rules.{in_range, opening, taken_unless}

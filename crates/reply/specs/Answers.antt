@@ -1,18 +1,22 @@
 -- What a reply says, and the 32 bits that say it.
-use Rattle.std.specs.Prelude.{ℕ, ◌+◌, ◌*◌, ◌^◌, Some, None, Option}
+use Rattle.std.specs.Prelude.{ℕ, ◌+◌, ◌*◌, ◌^◌, Some, None, Option, Result, Ok, Err}
 use Rattle.reply.specs.Table.{number, layer, layer_number}
-use Rattle.reply.specs.declared.Reply.{Reply}
-use Rattle.reply.specs.declared.Reply.TheVariants.{Done, Refused}
+use Rattle.reply.specs.declared.place.Place.{Place}
 use Rattle.reply.specs.declared.reason.Reason.{Reason}
+use Rattle.reply.specs.declared.refusal.Refusal.{Refusal}
 
 -- done, with a place that says how many; or refused, for a reason and at a place
 pub data Answer : Type 0 where
   done : ℕ → Answer
   refused : Reason → ℕ → Answer
 
+-- a reply as the code has it
+abbrev pub Reply : Type 0
+Reply = Result Place Refusal
+
 abbrev pub answer : Reply → Answer
-answer (Done place) = done place.value
-answer (Refused reason place) = refused reason place.value
+answer (Ok place) = done place.value
+answer (Err refusal) = refused refusal.reason refusal.place.value
 
 abbrev pub reason_of : Answer → Option Reason
 reason_of (done place) = None

@@ -19,20 +19,24 @@ impl Place {
             None
         }
     }
+}
 
-    /// The place `count`, which always fits.
-    pub fn from_count(count: u16) -> Place
-        ensures { result.value ≡ count }
-    {
+/// A count of 16 bits always fits.
+impl From<u16> for Place {
+    ghost from_gives = { λ count place. place.value ≡ count };
+
+    fn from(count: u16) -> Place {
         Place {
             value: u32::from(count),
         }
     }
+}
 
-    /// The number itself.
-    pub fn value(self) -> u32
-        ensures { result ≡ self.value }
-    {
-        self.value
+/// The number itself.
+impl From<Place> for u32 {
+    ghost from_gives = { λ place number. number ≡ place.value };
+
+    fn from(place: Place) -> u32 {
+        place.value
     }
 }

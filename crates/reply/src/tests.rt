@@ -1,18 +1,19 @@
 //! Examples of replies: the code, the place, and the number and layer of a reason.
-use crate::Reply;
+use crate::code;
 use crate::place::Place;
 use crate::reason::{Layer, Reason};
+use crate::refusal::Refusal;
 use std::test::Fail;
 
 #[test]
 fn a_refusal_says_layer_number_and_place(rt: HostRuntime) {
-    assert_eq!(rt; Reply::refused(Reason::OutputFull, 3).code(), 0x30500003);
+    assert_eq!(rt; code(Err(Refusal::new(Reason::OutputFull, 3))), 0x30500003);
 }
 
 #[test]
 fn a_done_reply_says_its_count(rt: HostRuntime) {
-    assert_eq!(rt; Reply::done(0).code(), 0);
-    assert_eq!(rt; Reply::done(7).code(), 7);
+    assert_eq!(rt; code(Ok(Place::from(0))), 0);
+    assert_eq!(rt; code(Ok(Place::from(7))), 7);
 }
 
 #[test]
@@ -20,7 +21,7 @@ fn a_place_has_twenty_bits(rt: HostRuntime) -> Result<(), Fail> {
     let Some(last) = Place::new((1 << 20) - 1) else {
         return Err(Fail::new("the last place"));
     };
-    assert_eq!(rt; last.value(), 0xfffff);
+    assert_eq!(rt; u32::from(last), 0xfffff);
     assert!(rt; Place::new(1 << 20).is_none());
     Ok(())
 }

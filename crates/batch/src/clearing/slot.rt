@@ -5,7 +5,9 @@ use super::Clearing;
 use crossbar::setting::Setting;
 use policy::Policy;
 use reply::Reply;
+use reply::place::Place;
 use reply::reason::Reason;
+use reply::refusal::Refusal;
 
 impl Clearing {
     /// Serves one slot by the policy's setting, which is written to `place`: done with the number of packets that left.
@@ -17,12 +19,12 @@ impl Clearing {
         ensures run { RunsOn self.old place.new self.new }
     {
         if self.left == 0 {
-            return Reply::refused(Reason::NoSlotsLeft, 0);
+            return Err(Refusal::from(Reason::NoSlotsLeft));
         }
         let setting = policy.choose(&self.demand);
         let departed = self.demand.serve(&setting);
         self.left -= 1;
         *place = setting;
-        Reply::done(departed as u16)
+        Ok(Place::from(u16::from(departed)))
     }
 }

@@ -11,28 +11,28 @@ use crossbar::demand::Demand;
 use crossbar::port::{Pair, Port};
 use crossbar::ports::Ports;
 use reply::Reply;
+use reply::place::Place;
 use reply::reason::Reason;
+use reply::refusal::Refusal;
 
 impl Gathering {
     /// Opens an empty batch of `ports` inputs and outputs and `slots` slots, in the caller's place.
     ///
     /// Refused as out of range where `ports` is not 1 to 16 or `slots` is not 1 to 1,024; the place then stays as it
     /// was. What batch stood there before is let go of.
+    // No `Result<Gathering, Refusal>`: by the rules a batch is opened in a place that the caller gives, and every call
+    // answers a reply.
     pub fn open(place: &mut Option<Gathering>, ports: usize, slots: usize) -> Reply
         ensures { Opened place.old ports slots result place.new }
     {
-        let Some(ports) = Ports::new(ports) else {
-            return Reply::refused(Reason::OutOfRange, 0);
-        };
-        let Some(slots) = Slots::new(slots) else {
-            return Reply::refused(Reason::OutOfRange, 0);
-        };
-        let batch = Some(Gathering::empty(ports, slots));
-        *place = batch;
-        Reply::done(0)
+        let ports = Ports::new(ports).ok_or(Reason::OutOfRange)?;
+        let slots = Slots::new(slots).ok_or(Reason::OutOfRange)?;
+        *place = Some(Gathering::empty(ports, slots));
+        Ok(Place::from(0))
     }
 
     /// A batch in which nothing is gathered yet.
+    #[tactic(auto, using(crossbar::proofs::Loads::largest_nothing))]
     fn empty(ports: Ports, slots: Slots) -> Gathering
         ensures { Empty ports.count slots.count result }
     {
@@ -81,10 +81,10 @@ impl Gathering {
         ensures { Took self.old pair result self.new }
     {
         if let Some(reason) = self.refusal(pair) {
-            return Reply::refused(reason, 0);
+            return Err(Refusal::from(reason));
         }
         let _added = self.demand.add(pair);
-        Reply::done(1)
+        Ok(Place::from(1))
     }
 
     /// Closes the batch: what was gathered is to be cleared in L slots.
