@@ -3,9 +3,11 @@ ghost use Rattle.document.specs.Period.{factors_fit, slots_answer};
 ghost use Rattle.reply.specs.Answers.{answer};
 ghost use Rattle.std.specs.Prelude.{◌≡◌};
 
-use batch::slots::MOST_SLOTS;
+use batch::slots::Slots;
 use reply::Reply;
+use reply::place::Place;
 use reply::reason::Reason;
+use reply::refusal::Refusal;
 
 /// The fastest line, in bits a second.
 pub const MOST_RATE: u64 = 100_000_000_000;
@@ -37,13 +39,11 @@ impl Line {
         ensures { answer result ≡ slots_answer self.now }
     {
         if !self.factors_fit() {
-            return Reply::refused(Reason::OutOfRange, 0);
+            return Err(Refusal::from(Reason::OutOfRange));
         }
-        let slots = self.rate * self.period / (MICROSECONDS_A_SECOND * self.packet);
-        if slots < 1 || slots > MOST_SLOTS as u64 {
-            return Reply::refused(Reason::OutOfRange, 0);
-        }
-        Reply::done(slots as u16)
+        let reckoned = self.rate * self.period / (MICROSECONDS_A_SECOND * self.packet);
+        let slots = Slots::new(reckoned as usize).ok_or(Reason::OutOfRange)?;
+        Ok(Place::from(slots.count()))
     }
 
     /// Whether rate, period and packet are in range.

@@ -1,5 +1,6 @@
 //! Examples of the slots of a period, at the bounds of each factor and of the slots.
 use crate::period::Line;
+use reply::code;
 
 const OUT_OF_RANGE: u32 = 0x11500000;
 
@@ -10,7 +11,7 @@ fn slots(rate: u64, period: u64, packet: u64) -> u32 {
         period,
         packet,
     };
-    line.slots().code()
+    code(line.slots())
 }
 
 #[test]

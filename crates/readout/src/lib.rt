@@ -5,7 +5,7 @@ ghost use Rattle.readout.specs.Readouts.{ReadOut};
 
 use batch::gathering::Gathering;
 use crossbar::port::Pair;
-use reply::Reply;
+use reply::refusal::Refusal;
 
 /// What a camera sends to a machine in one period.
 #[derive(Clone, Copy)]
@@ -14,11 +14,11 @@ pub struct Readout {
     pub packets: u32,
 }
 
-/// How many packets of a readout were taken, and the reply that refused the next, if one was refused.
+/// How many packets of a readout were taken, and why the next was refused, if one was.
 #[derive(Clone, Copy)]
 pub struct Taken {
     pub packets: u32,
-    pub refused: Option<Reply>,
+    pub refused: Option<Refusal>,
 }
 
 /// Gathers the packets of a readout one by one, up to the first that is refused.
@@ -26,11 +26,10 @@ pub fn gather(batch: &mut Gathering, readout: Readout) -> Taken
     ensures { ReadOut batch.old readout result batch.new }
 {
     for packets in 0..readout.packets {
-        let reply = batch.add(readout.pair);
-        if let Reply::Refused(_, _) = reply {
+        if let Err(refusal) = batch.add(readout.pair) {
             return Taken {
                 packets,
-                refused: Some(reply),
+                refused: Some(refusal),
             };
         }
     }
