@@ -14,6 +14,7 @@ pub struct Slots {
 
 impl Slots {
     /// `count` slots, or `None` where that is 0 or above 1,024.
+    // As `NonZero::new`, and no `TryFrom`: an error type would say no more than `None`.
     pub fn new(count: usize) -> Option<Slots>
         ensures { MatchOption result ((1 ≤ count) × (count ≤ 1024) → ⊥) (λ slots. slots.count ≡ count) }
     {

@@ -1,7 +1,7 @@
 //! One line of the input, taken apart.
 ghost use Rattle.std.specs.Prelude.{◌<◌, IfOk};
 
-use crossbar::port::{MOST_PORTS, Pair};
+use crossbar::port::{MOST_PORTS, Pair, Port};
 use readout::Readout;
 use std::str::{FromStr, SplitWhitespace};
 
@@ -18,10 +18,8 @@ pub(crate) enum Entry<'a> {
     Packet(u64),
     /// The number of cameras, and of machines.
     Ports(usize),
-    /// The name of the camera at an input.
-    Camera(u8, &'a str),
-    /// The name of the machine at an output.
-    Machine(u8, &'a str),
+    /// The name of the camera at an input, or of the machine at an output.
+    Name(Port, &'a str),
     /// A readout: camera, machine, packets.
     Readout(Readout),
 }
@@ -39,33 +37,40 @@ pub(crate) enum Fault {
     TooLong,
 }
 
-/// Reads one line; what follows a `#` is a comment.
-pub(crate) fn read(line: &str) -> Result<Entry<'_>, Fault> {
-    let text = match line.split_once('#') {
-        Some((before, _)) => before,
-        None => line,
-    };
-    let mut words = text.split_whitespace();
-    let Some(first) = words.next() else {
-        return Ok(Entry::Blank);
-    };
-    let entry = read_words(first, &mut words)?;
-    match words.next() {
-        Some(_) => Err(Fault::TooLong),
-        None => Ok(entry),
+/// One line; what follows a `#` is a comment.
+impl<'a> TryFrom<&'a str> for Entry<'a> {
+    type Error = Fault;
+
+    fn try_from(line: &'a str) -> Result<Entry<'a>, Fault> {
+        let text = line.split_once('#').map_or(line, |(before, _)| before);
+        let mut words = text.split_whitespace();
+        let Some(first) = words.next() else {
+            return Ok(Entry::Blank);
+        };
+        let entry = read_words(first, &mut words)?;
+        match words.next() {
+            Some(_) => Err(Fault::TooLong),
+            None => Ok(entry),
+        }
     }
 }
 
 fn read_words<'a>(first: &str, words: &mut SplitWhitespace<'a>) -> Result<Entry<'a>, Fault> {
-    match first {
-        "rate" => Ok(Entry::Rate(number(words, "the rate in bits a second")?)),
-        "period" => Ok(Entry::Period(number(words, "the period in microseconds")?)),
-        "packet" => Ok(Entry::Packet(number(words, "the packet in bits")?)),
-        "ports" => Ok(Entry::Ports(number(words, "the number of ports")?)),
-        "camera" => Ok(Entry::Camera(port(words, "the camera")?, name(words)?)),
-        "machine" => Ok(Entry::Machine(port(words, "the machine")?, name(words)?)),
-        _ => Ok(Entry::Readout(readout(first, words)?)),
-    }
+    Ok(match first {
+        "rate" => Entry::Rate(number(words, "the rate in bits a second")?),
+        "period" => Entry::Period(number(words, "the period in microseconds")?),
+        "packet" => Entry::Packet(number(words, "the packet in bits")?),
+        "ports" => Entry::Ports(number(words, "the number of ports")?),
+        "camera" => Entry::Name(
+            Port::Input(port(words, "the camera")?),
+            word(words, "the name")?,
+        ),
+        "machine" => Entry::Name(
+            Port::Output(port(words, "the machine")?),
+            word(words, "the name")?,
+        ),
+        _ => Entry::Readout(readout(first, words)?),
+    })
 }
 
 fn readout(first: &str, words: &mut SplitWhitespace<'_>) -> Result<Readout, Fault> {
@@ -76,30 +81,10 @@ fn readout(first: &str, words: &mut SplitWhitespace<'_>) -> Result<Readout, Faul
     Ok(Readout { pair, packets })
 }
 
-fn number<T: FromStr>(words: &mut SplitWhitespace<'_>, what: &'static str) -> Result<T, Fault>
-where
-    T::Err: Drop,
-{
-    match words.next() {
-        Some(word) => parsed(word, what),
-        None => Err(Fault::Missing(what)),
-    }
-}
-
-fn parsed<T: FromStr>(word: &str, what: &'static str) -> Result<T, Fault>
-where
-    T::Err: Drop,
-{
-    match word.parse::<T>() {
-        Ok(value) => Ok(value),
-        Err(_) => Err(Fault::NoNumber(what)),
-    }
-}
-
 fn port(words: &mut SplitWhitespace<'_>, what: &'static str) -> Result<u8, Fault>
     ensures { IfOk result (λ p. p < 16) }
 {
-    let port = number::<u8>(words, what)?;
+    let port = number(words, what)?;
     if port < MOST_PORTS {
         Ok(port)
     } else {
@@ -107,9 +92,20 @@ fn port(words: &mut SplitWhitespace<'_>, what: &'static str) -> Result<u8, Fault
     }
 }
 
-fn name<'a>(words: &mut SplitWhitespace<'a>) -> Result<&'a str, Fault> {
-    match words.next() {
-        Some(word) => Ok(word),
-        None => Err(Fault::Missing("the name")),
-    }
+fn number<T: FromStr>(words: &mut SplitWhitespace<'_>, what: &'static str) -> Result<T, Fault>
+where
+    T::Err: Drop,
+{
+    parsed(word(words, what)?, what)
+}
+
+fn parsed<T: FromStr>(word: &str, what: &'static str) -> Result<T, Fault>
+where
+    T::Err: Drop,
+{
+    word.parse().map_err(|_| Fault::NoNumber(what))
+}
+
+fn word<'a>(words: &mut SplitWhitespace<'a>, what: &'static str) -> Result<&'a str, Fault> {
+    words.next().ok_or(Fault::Missing(what))
 }

@@ -2,11 +2,13 @@
 //! what is gathered and in how many slots it clears, and where a policy is named, by which settings, slot by slot.
 #![tactic(auto)]
 
+use plan::Plan;
 use std::io;
 
 mod chart;
 mod entry;
 mod method;
+mod names;
 mod plan;
 mod report;
 mod words;
@@ -15,6 +17,6 @@ fn main(rt: HostRuntime) -> io::Result<()> {
     let method = method::read(&rt)?;
     let heap = rt.alloc();
     let text = io::read_to_string(heap, rt.stdin())?;
-    let plan = plan::read(heap, text.as_str())?;
+    let plan = Plan::read(heap, text.as_str())?;
     report::print(&rt, &plan, method)
 }

@@ -1,6 +1,6 @@
 //! All that the input says of one period.
-use crate::entry;
 use crate::entry::{Entry, Fault};
+use crate::names::Names;
 use document::period::Line;
 use readout::Readout;
 use std::alloc::{AllocError, Global};
@@ -10,8 +10,7 @@ use std::alloc::{AllocError, Global};
 pub(crate) struct Plan<'a> {
     pub line: Line,
     pub ports: usize,
-    pub cameras: [&'a str; 16],
-    pub machines: [&'a str; 16],
+    pub names: Names<'a>,
     pub readouts: Vec<Numbered<Readout>>,
     pub faults: Vec<Numbered<Fault>>,
 }
@@ -23,49 +22,35 @@ pub(crate) struct Numbered<T> {
     pub item: T,
 }
 
-/// Reads the whole input; lines that cannot be read are noted and passed over.
-pub(crate) fn read(heap: Global, text: &str) -> Result<Plan<'_>, AllocError> {
-    let line = Line {
-        rate: 0,
-        period: 0,
-        packet: 0,
-    };
-    let mut plan = Plan {
-        line,
-        ports: 0,
-        cameras: [""; 16],
-        machines: [""; 16],
-        readouts: Vec::new(heap),
-        faults: Vec::new(heap),
-    };
-    for (before, text) in text.lines().enumerate() {
-        let line = before.saturating_add(1);
-        match entry::read(text) {
-            Ok(entry) => note(&mut plan, line, entry)?,
-            Err(item) => plan.faults.push(Numbered { line, item })?,
+impl<'a> Plan<'a> {
+    /// Reads the whole input; lines that cannot be read are noted and passed over.
+    pub(crate) fn read(heap: Global, text: &'a str) -> Result<Plan<'a>, AllocError> {
+        let mut plan = Plan {
+            line: Line::default(),
+            ports: 0,
+            names: Names::default(),
+            readouts: Vec::new(heap),
+            faults: Vec::new(heap),
+        };
+        for (line, text) in (1..).zip(text.lines()) {
+            match Entry::try_from(text) {
+                Ok(entry) => plan.note(line, entry)?,
+                Err(item) => plan.faults.push(Numbered { line, item })?,
+            }
         }
+        Ok(plan)
     }
-    Ok(plan)
-}
 
-fn note<'a>(plan: &mut Plan<'a>, line: usize, entry: Entry<'a>) -> Result<(), AllocError> {
-    match entry {
-        Entry::Blank => {}
-        Entry::Rate(rate) => plan.line.rate = rate,
-        Entry::Period(period) => plan.line.period = period,
-        Entry::Packet(packet) => plan.line.packet = packet,
-        Entry::Ports(ports) => plan.ports = ports,
-        Entry::Camera(camera, name) => {
-            if camera < 16 {
-                plan.cameras[camera as usize] = name;
-            }
+    fn note(&mut self, line: usize, entry: Entry<'a>) -> Result<(), AllocError> {
+        match entry {
+            Entry::Blank => {}
+            Entry::Rate(rate) => self.line.rate = rate,
+            Entry::Period(period) => self.line.period = period,
+            Entry::Packet(packet) => self.line.packet = packet,
+            Entry::Ports(ports) => self.ports = ports,
+            Entry::Name(port, name) => self.names.put(port, name),
+            Entry::Readout(item) => self.readouts.push(Numbered { line, item })?,
         }
-        Entry::Machine(machine, name) => {
-            if machine < 16 {
-                plan.machines[machine as usize] = name;
-            }
-        }
-        Entry::Readout(item) => plan.readouts.push(Numbered { line, item })?,
+        Ok(())
     }
-    Ok(())
 }

@@ -1,83 +1,70 @@
 //! What the program prints.
+use crate::chart;
+use crate::entry::Fault;
 use crate::method::Method;
+use crate::names::Names;
 use crate::plan::{Numbered, Plan};
-use crate::{chart, words};
+use crate::words::Outcome;
 use batch::clearing::Clearing;
 use batch::gathering::Gathering;
 use crossbar::demand::Demand;
 use crossbar::port::Port;
+use document::period::Line;
 use policy::path::PathPolicy;
 use policy::peel::PeelingPolicy;
 use readout::Readout;
-use reply::Reply;
+use reply::refusal::Refusal;
 use std::io;
 
 /// Gathers the readouts of a plan, and prints what became of each, the loads, and how they clear; with a policy, slot by
 /// slot.
-pub(crate) fn print(rt: &HostRuntime, plan: &Plan<'_>, method: Option<Method>) -> io::Result<()> {
-    print_faults(rt, plan)?;
-    let Reply::Done(slots) = plan.line.slots() else {
-        return print_refused(rt, "The line", plan.line.slots());
+pub(crate) fn print(rt: &impl Print, plan: &Plan<'_>, method: Option<Method>) -> io::Result<()> {
+    print_faults(rt, &plan.faults)?;
+    let slots = match plan.line.slots() {
+        Ok(slots) => u32::from(slots),
+        Err(refusal) => return print_refused(rt, "The line", refusal),
     };
-    print_line(rt, plan, slots.value())?;
-    let mut place = None;
-    let opened = Gathering::open(&mut place, plan.ports, slots.value() as usize);
-    match place {
-        Some(batch) => print_period(rt, plan, batch, method),
-        None => print_refused(rt, "The ports", opened),
+    print_line(rt, plan.line, slots)?;
+    match opened(plan.ports, slots as usize) {
+        Ok(batch) => print_period(rt, plan, batch, method),
+        Err(refusal) => print_refused(rt, "The ports", refusal),
     }
 }
 
+/// An empty batch.
+fn opened(ports: usize, slots: usize) -> Result<Gathering, Refusal> {
+    let mut place = None;
+    Gathering::open(&mut place, ports, slots)?;
+    Ok(place.unwrap())
+}
+
 fn print_period(
-    rt: &HostRuntime,
+    rt: &impl Print,
     plan: &Plan<'_>,
-    batch: Gathering,
+    mut batch: Gathering,
     method: Option<Method>,
 ) -> io::Result<()> {
-    let mut batch = batch;
     println!(rt; "Readouts")?;
     println!(rt;
         "  line  {:<21} {:<21} packets  taken  answer",
         "camera", "machine"
     )?;
-    for numbered in plan.readouts.iter() {
-        print_readout(rt, plan, &mut batch, *numbered)?;
+    for numbered in &plan.readouts {
+        print_readout(rt, &plan.names, &mut batch, *numbered)?;
     }
+    print_loads(rt, &plan.names, batch.demand())?;
     match method {
-        None => {
-            let (demand, slots_left) = batch.close().into_parts();
-            print_loads(rt, plan, &demand)?;
-            print_clearing(rt, &demand, slots_left)
-        }
-        Some(method) => {
-            print_loads(rt, plan, batch.demand())?;
-            print_served(rt, batch.close(), method)
-        }
+        None => print_clearing(rt, batch.close()),
+        Some(method) => print_served(rt, batch.close(), method),
     }
 }
 
-/// The slots in which a batch clears by a policy, and how many they were.
-fn print_served(rt: &HostRuntime, batch: Clearing, method: Method) -> io::Result<()> {
-    let mut clearing = batch;
-    let largest = clearing.demand().largest_load();
-    let served = print_slots(rt, &mut clearing, method);
-    let (_demand, slots_left) = clearing.into_parts();
-    print_count(rt, served?, largest, slots_left)
-}
-
-fn print_slots(rt: &HostRuntime, batch: &mut Clearing, method: Method) -> io::Result<u16> {
-    match method {
-        Method::Path => chart::print(rt, batch, &mut PathPolicy::new()),
-        Method::Peeling => chart::print(rt, batch, &mut PeelingPolicy::new()),
-    }
-}
-
-fn print_faults(rt: &HostRuntime, plan: &Plan<'_>) -> io::Result<()> {
-    if plan.faults.is_empty() {
+fn print_faults(rt: &impl Print, faults: &[Numbered<Fault>]) -> io::Result<()> {
+    if faults.is_empty() {
         return Ok(());
     }
     println!(rt; "Lines that were passed over")?;
-    for fault in plan.faults.iter() {
+    for fault in faults {
         let line = fault.line;
         let item = fault.item;
         println!(rt; "  line {line:>4}: {item}")?;
@@ -85,13 +72,12 @@ fn print_faults(rt: &HostRuntime, plan: &Plan<'_>) -> io::Result<()> {
     println!(rt)
 }
 
-fn print_refused(rt: &HostRuntime, what: &str, reply: Reply) -> io::Result<()> {
-    let code = reply.code();
+fn print_refused(rt: &impl Print, what: &str, refusal: Refusal) -> io::Result<()> {
+    let code = refusal.code();
     println!(rt; "{what} cannot be used: a number is missing or out of range (reply {code:08x})")
 }
 
-fn print_line(rt: &HostRuntime, plan: &Plan<'_>, slots: u32) -> io::Result<()> {
-    let line = plan.line;
+fn print_line(rt: &impl Print, line: Line, slots: u32) -> io::Result<()> {
     println!(rt; "The line")?;
     println!(rt; "  rate    {:>12} bits a second", line.rate)?;
     println!(rt; "  period  {:>12} microseconds", line.period)?;
@@ -101,74 +87,75 @@ fn print_line(rt: &HostRuntime, plan: &Plan<'_>, slots: u32) -> io::Result<()> {
 }
 
 fn print_readout(
-    rt: &HostRuntime,
-    plan: &Plan<'_>,
+    rt: &impl Print,
+    names: &Names<'_>,
     batch: &mut Gathering,
     numbered: Numbered<Readout>,
 ) -> io::Result<()> {
     let line = numbered.line;
-    let item = numbered.item;
-    let taken = readout::gather(batch, item);
-    let camera = name(&plan.cameras, item.pair.input);
-    let machine = name(&plan.machines, item.pair.output);
-    print!(rt;
-        "  {line:>4}  {:>2} {camera:<18} {:>2} {machine:<18} {:>7} {:>6}  ",
-        item.pair.input, item.pair.output, item.packets, taken.packets
-    )?;
-    match taken.refused {
-        None => println!(rt; "taken whole"),
-        Some(reply) => print_refusal(rt, taken.packets, reply),
-    }
+    let Readout { pair, packets } = numbered.item;
+    let taken = readout::gather(batch, numbered.item);
+    let camera = names.at(Port::Input(pair.input));
+    let machine = names.at(Port::Output(pair.output));
+    println!(rt;
+        "  {line:>4}  {:>2} {camera:<18} {:>2} {machine:<18} {packets:>7} {:>6}  {}",
+        pair.input,
+        pair.output,
+        taken.packets,
+        Outcome(taken)
+    )
 }
 
-fn print_refusal(rt: &HostRuntime, taken: u32, reply: Reply) -> io::Result<()> {
-    let code = reply.code();
-    let why = words::of_reason(reply.reason());
-    println!(rt; "refused after {taken}: {why} (reply {code:08x})")
-}
-
-/// The name of a port, or nothing where it has none.
-fn name<'a>(names: &[&'a str], port: u8) -> &'a str {
-    if (port as usize) < names.len() {
-        names[port as usize]
-    } else {
-        ""
-    }
-}
-
-fn print_loads(rt: &HostRuntime, plan: &Plan<'_>, demand: &Demand) -> io::Result<()> {
+fn print_loads(rt: &impl Print, names: &Names<'_>, demand: &Demand) -> io::Result<()> {
     println!(rt)?;
     println!(rt; "Loads")?;
-    for port in 0..demand.ports().count() {
-        let camera = name(&plan.cameras, port);
-        print!(rt; "  camera  {port:>2} {camera:<18}")?;
-        print_load(rt, demand, Port::Input(port))?;
-    }
-    for port in 0..demand.ports().count() {
-        let machine = name(&plan.machines, port);
-        print!(rt; "  machine {port:>2} {machine:<18}")?;
-        print_load(rt, demand, Port::Output(port))?;
+    let ports = demand.ports().count();
+    let inputs = (0..ports).map(Port::Input);
+    let outputs = (0..ports).map(Port::Output);
+    for port in inputs.chain(outputs) {
+        print_load(rt, names, demand, port)?;
     }
     println!(rt)
 }
 
-fn print_load(rt: &HostRuntime, demand: &Demand, port: Port) -> io::Result<()> {
+fn print_load(rt: &impl Print, names: &Names<'_>, demand: &Demand, port: Port) -> io::Result<()> {
+    let (side, number) = match port {
+        Port::Input(input) => ("camera", input),
+        Port::Output(output) => ("machine", output),
+    };
+    let name = names.at(port);
     let load = demand.load(port);
     let mark = if demand.is_critical(port) {
         "  critical"
     } else {
         ""
     };
-    println!(rt; " {load:>6}{mark}")
+    println!(rt; "  {side:<7} {number:>2} {name:<18} {load:>6}{mark}")
 }
 
-fn print_clearing(rt: &HostRuntime, demand: &Demand, slots_left: u16) -> io::Result<()> {
+fn print_clearing(rt: &impl Print, batch: Clearing) -> io::Result<()> {
+    let (demand, slots_left) = batch.into_parts();
     let largest = demand.largest_load();
     println!(rt; "Clearing")?;
     println!(rt; "  Everything clears in {largest} of the {slots_left} slots, and in no fewer.")
 }
 
-fn print_count(rt: &HostRuntime, served: u16, largest: u16, slots_left: u16) -> io::Result<()> {
+/// The slots in which a batch clears by a policy, and how many they were.
+fn print_served(rt: &impl Print, mut batch: Clearing, method: Method) -> io::Result<()> {
+    let largest = batch.demand().largest_load();
+    let served = print_slots(rt, &mut batch, method);
+    let (_demand, slots_left) = batch.into_parts();
+    print_count(rt, served?, largest, slots_left)
+}
+
+fn print_slots(rt: &impl Print, batch: &mut Clearing, method: Method) -> io::Result<u16> {
+    match method {
+        Method::Path => chart::print(rt, batch, &mut PathPolicy::new()),
+        Method::Peeling => chart::print(rt, batch, &mut PeelingPolicy::new()),
+    }
+}
+
+fn print_count(rt: &impl Print, served: u16, largest: u16, slots_left: u16) -> io::Result<()> {
     println!(rt)?;
     println!(rt; "Clearing")?;
     println!(rt;

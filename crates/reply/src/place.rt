@@ -10,6 +10,7 @@ pub struct Place {
 
 impl Place {
     /// The place `value`, or `None` where it is 2^20 or more.
+    // As `NonZero::new`, and no `TryFrom`: an error type would say no more than `None`.
     pub fn new(value: u32) -> Option<Place>
         ensures { MatchOption result (2 ^ 20 ≤ value) (λ place. place.value ≡ value) }
     {

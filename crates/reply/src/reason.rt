@@ -60,6 +60,7 @@ pub enum Reason {
 
 impl Reason {
     /// The number of the reason in the table of refusals.
+    // No `From<Reason> for u8`: a reason has two numbers, this one and its layer's.
     pub fn number(self) -> u8
         ensures { result ≡ number_of self }
     {

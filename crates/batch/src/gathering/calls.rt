@@ -96,13 +96,11 @@ impl Gathering {
     }
 
     /// Adds one last packet and closes the batch. Refused as `add` refuses; the batch is closed all the same.
-    pub fn close_with(self, last: Pair) -> (Reply, Clearing)
+    pub fn close_with(mut self, last: Pair) -> (Reply, Clearing)
         ensures { (b : Gathering) × Took self last result.0 b × Closed b result.1 }
     {
-        let mut batch = self;
-        let reply = batch.add(last);
-        let clearing = batch.close();
-        (reply, clearing)
+        let reply = self.add(last);
+        (reply, self.close())
     }
 
     /// Ends the period: the batch is closed, and an empty one of as many ports and slots is opened.
