@@ -20,7 +20,7 @@ pub const MOST_PACKET: u64 = 1_000_000;
 
 const MICROSECONDS_A_SECOND: u64 = 1_000_000;
 
-/// What the slots of a period are reckoned from.
+/// What the slots of a period are reckoned from; by default 0 in all, which is out of range.
 #[derive(Clone, Copy, Default)]
 pub struct Line {
     /// Bits a second, from 1 to 10^11.

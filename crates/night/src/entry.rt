@@ -43,60 +43,70 @@ impl<'a> TryFrom<&'a str> for Entry<'a> {
 
     fn try_from(line: &'a str) -> Result<Entry<'a>, Fault> {
         let text = line.split_once('#').map_or(line, |(before, _)| before);
-        let mut words = text.split_whitespace();
-        let Some(first) = words.next() else {
+        let mut words = Words(text.split_whitespace());
+        let Some(first) = words.0.next() else {
             return Ok(Entry::Blank);
         };
-        let entry = read_words(first, &mut words)?;
-        match words.next() {
+        let entry = words.entry(first)?;
+        match words.0.next() {
             Some(_) => Err(Fault::TooLong),
             None => Ok(entry),
         }
     }
 }
 
-fn read_words<'a>(first: &str, words: &mut SplitWhitespace<'a>) -> Result<Entry<'a>, Fault> {
-    Ok(match first {
-        "rate" => Entry::Rate(number(words, "the rate in bits a second")?),
-        "period" => Entry::Period(number(words, "the period in microseconds")?),
-        "packet" => Entry::Packet(number(words, "the packet in bits")?),
-        "ports" => Entry::Ports(number(words, "the number of ports")?),
-        "camera" => Entry::Name(
-            Port::Input(port(words, "the camera")?),
-            word(words, "the name")?,
-        ),
-        "machine" => Entry::Name(
-            Port::Output(port(words, "the machine")?),
-            word(words, "the name")?,
-        ),
-        _ => Entry::Readout(readout(first, words)?),
-    })
-}
+/// The words of a line that are still to be read. `what` is what a word should say.
+#[derive(Drop)]
+struct Words<'a>(SplitWhitespace<'a>);
 
-fn readout(first: &str, words: &mut SplitWhitespace<'_>) -> Result<Readout, Fault> {
-    let input = parsed(first, "the camera")?;
-    let output = number(words, "the machine")?;
-    let packets = number(words, "the number of packets")?;
-    let pair = Pair { input, output };
-    Ok(Readout { pair, packets })
-}
-
-fn port(words: &mut SplitWhitespace<'_>, what: &'static str) -> Result<u8, Fault>
-    ensures { IfOk result (λ p. p < 16) }
-{
-    let port = number(words, what)?;
-    if port < MOST_PORTS {
-        Ok(port)
-    } else {
-        Err(Fault::NoPort)
+impl<'a> Words<'a> {
+    fn entry(&mut self, first: &str) -> Result<Entry<'a>, Fault> {
+        Ok(match first {
+            "rate" => Entry::Rate(self.number("the rate in bits a second")?),
+            "period" => Entry::Period(self.number("the period in microseconds")?),
+            "packet" => Entry::Packet(self.number("the packet in bits")?),
+            "ports" => Entry::Ports(self.number("the number of ports")?),
+            "camera" => Entry::Name(
+                Port::Input(self.port("the camera")?),
+                self.word("the name")?,
+            ),
+            "machine" => Entry::Name(
+                Port::Output(self.port("the machine")?),
+                self.word("the name")?,
+            ),
+            _ => Entry::Readout(self.readout(first)?),
+        })
     }
-}
 
-fn number<T: FromStr>(words: &mut SplitWhitespace<'_>, what: &'static str) -> Result<T, Fault>
-where
-    T::Err: Drop,
-{
-    parsed(word(words, what)?, what)
+    fn readout(&mut self, first: &str) -> Result<Readout, Fault> {
+        let input = parsed(first, "the camera")?;
+        let output = self.number("the machine")?;
+        let packets = self.number("the number of packets")?;
+        let pair = Pair { input, output };
+        Ok(Readout { pair, packets })
+    }
+
+    fn port(&mut self, what: &'static str) -> Result<u8, Fault>
+        ensures { IfOk result (λ p. p < 16) }
+    {
+        let port = self.number(what)?;
+        if port < MOST_PORTS {
+            Ok(port)
+        } else {
+            Err(Fault::NoPort)
+        }
+    }
+
+    fn number<T: FromStr>(&mut self, what: &'static str) -> Result<T, Fault>
+    where
+        T::Err: Drop,
+    {
+        parsed(self.word(what)?, what)
+    }
+
+    fn word(&mut self, what: &'static str) -> Result<&'a str, Fault> {
+        self.0.next().ok_or(Fault::Missing(what))
+    }
 }
 
 fn parsed<T: FromStr>(word: &str, what: &'static str) -> Result<T, Fault>
@@ -104,8 +114,4 @@ where
     T::Err: Drop,
 {
     word.parse().map_err(|_| Fault::NoNumber(what))
-}
-
-fn word<'a>(words: &mut SplitWhitespace<'a>, what: &'static str) -> Result<&'a str, Fault> {
-    words.next().ok_or(Fault::Missing(what))
 }

@@ -31,7 +31,7 @@ pub(crate) fn print(rt: &impl Print, plan: &Plan<'_>, method: Option<Method>) ->
     }
 }
 
-/// An empty batch.
+/// An empty batch, or why none can be opened.
 fn opened(ports: usize, slots: usize) -> Result<Gathering, Refusal> {
     let mut place = None;
     Gathering::open(&mut place, ports, slots)?;
@@ -64,9 +64,7 @@ fn print_faults(rt: &impl Print, faults: &[Numbered<Fault>]) -> io::Result<()> {
         return Ok(());
     }
     println!(rt; "Lines that were passed over")?;
-    for fault in faults {
-        let line = fault.line;
-        let item = fault.item;
+    for Numbered { line, item } in faults {
         println!(rt; "  line {line:>4}: {item}")?;
     }
     println!(rt)
@@ -148,6 +146,7 @@ fn print_served(rt: &impl Print, mut batch: Clearing, method: Method) -> io::Res
     print_count(rt, served?, largest, slots_left)
 }
 
+// A match, and no `dyn Policy`: each arm makes its own policy either way.
 fn print_slots(rt: &impl Print, batch: &mut Clearing, method: Method) -> io::Result<u16> {
     match method {
         Method::Path => chart::print(rt, batch, &mut PathPolicy::new()),
