@@ -3,6 +3,8 @@ pub mod Loads
 pub mod Clearing
 pub mod Places
 pub mod Joins
+pub mod Telling
+pub mod Moving
 pub mod Room
-pub mod Changing
 pub mod Serving
+pub mod Giving

@@ -1,8 +1,8 @@
 -- What the tests of a pair tell.
-use Rattle.std.proofs.Common.{◌≡◌, ℕ, ◌+◌, ◌-◌, ◌<◌, ◌≤◌, Bool, true, false, ◌&&◌, ltb, leb, ◌⊎◌, sym, ◌∙◌, inl, inr, add-one, arith}
-use Rattle.std.proofs.lemmas.Bool.{and_cases, and_parts, cases_lt, le-leb, leb-true, lt-leb, ltb-false, ltb-true}
+use Rattle.std.proofs.Common.{◌≡◌, ℕ, ◌+◌, ◌-◌, ◌<◌, ◌≤◌, Bool, true, false, ◌&&◌, ltb, leb, ◌⊎◌, sym, ◌∙◌, inl, inr, arith}
+use Rattle.std.proofs.lemmas.Bool.{and_cases, and_from, and_parts, cases_lt, le-leb, leb-true, lt-leb, lt-ltb, ltb-false, ltb-true}
 use Rattle.crossbar.specs.Loads.{index}
-use Rattle.crossbar.specs.Models.{has_pair, has_room, has_room_for, load_of, size, waiting}
+use Rattle.crossbar.specs.Models.{has_pair, has_room_for, load_of, size, waiting}
 use Rattle.crossbar.specs.declared.demand.Demand.{Demand}
 use Rattle.crossbar.specs.declared.port.Pair.{Pair}
 use Rattle.crossbar.specs.declared.port.Port.{Port}
@@ -22,6 +22,23 @@ outside_from_pair d p e = grid_outside (size d) d.counts p.input p.output (which
     which : (ltb p.input (size d) ≡ false) ⊎ (ltb p.output (size d) ≡ false) → (size d ≤ p.input) ⊎ (size d ≤ p.output)
     which (inl f) = inl (ltb-false p.input (size d) f)
     which (inr f) = inr (ltb-false p.output (size d) f)
+
+-- a pair with a packet is one of the n × n
+pub waits_inside : (d : Demand) (i j : ℕ) → 1 ≤ waiting d i j → (i < size d) × (j < size d)
+waits_inside d i j h =
+    elim (cases_lt i (size d)) [
+      | inl a ↦
+          elim (cases_lt j (size d)) [
+            | inl b ↦ (a, b)
+            | inr b ↦ absurd (omega (arith, grid_outside (size d) d.counts i j (inr b)))
+          ]
+      | inr a ↦ absurd (omega (arith, grid_outside (size d) d.counts i j (inl a)))
+    ]
+
+pub pair_from_count : (d : Demand) (p : Pair) → 1 ≤ waiting d p.input p.output → has_pair d p ≡ true
+pair_from_count d p h =
+    let (i, o) = waits_inside d p.input p.output h in
+    and_from (ltb p.input (size d)) (ltb p.output (size d)) (lt-ltb p.input (size d) i) (lt-ltb p.output (size d) o)
 
 -- where there is room for k packets, the pair is there and both loads can rise by k
 pub record Room (bound k : ℕ) (d : Demand) (p : Pair) : Type 0 where
@@ -43,10 +60,6 @@ room_from_test bound k d p e =
       at_input = leb-true (load_of d (Input p.input) + k) bound b.1;
       at_output = leb-true (load_of d (Output p.output) + k) bound a.1;
     }
-
--- room for one packet is what `has_room` tests
-pub room_for_one : (bound : ℕ) (d : Demand) (p : Pair) → has_room_for bound 1 d p ≡ has_room bound d p
-room_for_one bound d p = simp add-one
 
 -- what a load leaves of the bound, compared, is the sum compared
 pub room_left : (bound k x : ℕ) → x ≤ bound → leb k (bound - x) ≡ leb (x + k) bound

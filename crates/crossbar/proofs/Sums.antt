@@ -1,5 +1,5 @@
 -- The laws of sums and of the largest below n.
-use Rattle.std.proofs.Common.{◌≡◌, ℕ, zero, suc, ◌+◌, ◌-◌, ◌*◌, ◌<◌, ◌≤◌, max, cond, eqb, sym, refl, ap, ◌∙◌, inl, inr, mul-zero, mul-add, add-one, arith}
+use Rattle.std.proofs.Common.{◌≡◌, ℕ, zero, suc, ◌+◌, ◌-◌, ◌*◌, ◌<◌, ◌≤◌, cond, eqb, sym, refl, ap, ◌∙◌, inl, inr, mul-zero, mul-add, arith}
 use Rattle.std.proofs.lemmas.Bool.{cases_lt, eq-eqb}
 use Rattle.std.proofs.lemmas.Bool.Decides.{nat_tests}
 use Rattle.crossbar.specs.Sums.{total, largest}
@@ -74,10 +74,6 @@ total_single n a h =
     let here : cond {A = ℕ} (eqb a a) 1 0 ≡ 1 = ap (λ b. cond {A = ℕ} b 1 0) (eq-eqb a a refl) in
     let most = total_one n (λ k. cond (eqb k a) 1 0) (λ k l. grind (arith, nat_tests)) (λ j k l m p q. grind (arith, nat_tests)) in
     omega (arith, most, total_has n (λ k. cond (eqb k a) 1 0) a h)
-
-pub largest_more : (n : ℕ) (f : ℕ → ℕ) → largest (n + 1) f ≡ max (largest n f) (f n)
-unfolding largest
-largest_more n f = rw add-one
 
 pub largest_has : (n : ℕ) (f : ℕ → ℕ) (k : ℕ) → k < n → f k ≤ largest n f
 unfolding largest

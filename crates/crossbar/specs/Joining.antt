@@ -28,6 +28,19 @@ unjoined j = None
 abbrev pub with_pair : ℕ → ℕ → Joins → Joins
 with_pair a b s j = cond (j == b) (Some a) (s j)
 
+-- joins nothing to output b, and every other output as s does
+abbrev pub freed : ℕ → Joins → Joins
+freed b s j = cond (j == b) None (s j)
+
+-- the input joined to an output, but none where that is input a
+abbrev pub but_input : ℕ → Option ℕ → Option ℕ
+but_input a None = None
+but_input a (Some i) = cond (i == a) None (Some i)
+
+-- joins input a to output b and to no other output, and every other input but the one that b had as s does
+abbrev pub moved : ℕ → ℕ → Joins → Joins
+moved a b s j = cond (j == b) (Some a) (but_input a (s j))
+
 abbrev pub is_input : Option ℕ → ℕ → ℕ
 is_input None i = 0
 is_input (Some a) i = cond (i == a) 1 0

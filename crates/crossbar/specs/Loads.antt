@@ -1,5 +1,5 @@
 -- What waits at a crossbar of n inputs and n outputs, the load of a port, and the critical ports.
-use Rattle.std.specs.Prelude.{◌≡◌, ℕ, ◌+◌, ◌-◌, ◌*◌, ◌<◌, ◌≤◌, max, cond, ◌&&◌, ◌==◌}
+use Rattle.std.specs.Prelude.{◌≡◌, ℕ, ◌+◌, ◌-◌, ◌*◌, ◌<◌, ◌≤◌, max, cond, ◌&&◌, ◌==◌, if◌then◌else◌}
 use Rattle.crossbar.specs.Sums.{total, largest}
 use Rattle.crossbar.specs.declared.port.Port.{Port}
 use Rattle.crossbar.specs.declared.port.Port.TheVariants.{Input, Output}
@@ -26,6 +26,10 @@ more k a b d i j = d i j + k * single a b i j
 -- one packet less from input a to output b, where one waits
 abbrev pub one_less : ℕ → ℕ → Counts → Counts
 one_less a b d i j = d i j - single a b i j
+
+-- c packets from input a to output b, and all others as they are
+abbrev pub with_count : ℕ → ℕ → ℕ → Counts → Counts
+with_count c a b d i j = if i == a && j == b then c else d i j
 
 -- the same packets with inputs and outputs exchanged
 abbrev pub turned : Counts → Counts

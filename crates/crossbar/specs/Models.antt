@@ -3,12 +3,15 @@ use Rattle.std.specs.Prelude.{◌≡◌, ℕ, ◌+◌, Bool, not, ◌&&◌, List
 use Rattle.crossbar.specs.Arrays.{grid}
 use Rattle.crossbar.specs.Joining.{Joins, pairs_below}
 use Rattle.crossbar.specs.Loads.{Counts, load, largest_load}
+use Rattle.crossbar.specs.Sides.{at_port}
 use Rattle.crossbar.specs.declared.demand.Demand.{Demand}
 use Rattle.crossbar.specs.declared.port.Pair.{Pair}
 use Rattle.crossbar.specs.declared.port.Port.{Port}
 use Rattle.crossbar.specs.declared.port.Port.TheVariants.{Input, Output}
 use Rattle.crossbar.specs.declared.setting.Setting.{Setting}
 use Rattle.crossbar.specs.declared.setting.pairs.Pairs.{Pairs}
+use Rattle.crossbar.specs.declared.side.Side.{Side}
+use Rattle.mask.specs.declared.Mask.{Mask}
 
 -- a demand's number of ports, and what waits in it
 abbrev pub size : Demand → ℕ
@@ -56,3 +59,11 @@ abbrev pub NextPair : Pairs → Option Pair → Pairs → Type 0
 NextPair p r q =
     (q.setting.now ≡ p.setting.now)
     × MatchOption r ((given_by p ≡ pairs_below (input_at p.setting.now) 16) × (given_by q ≡ given_by p)) (λ x. given_by q ≡ given_by p ++ x ∷ [])
+
+-- the load of a port of one side of a demand
+abbrev pub load_at : Side → ℕ → ℕ
+load_at s k = (at_port s.at.now k).load
+
+-- the ports of the other side that a port has packets with
+abbrev pub links_at : Side → ℕ → Mask
+links_at s k = (at_port s.at.now k).links

@@ -4,6 +4,8 @@ ghost use Rattle.std.specs.Prelude.{◌≡◌, ◌<◌, ◌≤◌, MatchOption};
 use crate::port::MOST_PORTS;
 
 /// The number n of inputs, and of outputs: 1 to 16.
+// Not one type with the slots of a period: that number is a `u16` and this one a `u8`, as ports are numbered, and a type
+// over both would need a trait that says which number each is.
 #[derive(Clone, Copy)]
 pub struct Ports {
     count: u8,
@@ -13,6 +15,7 @@ pub struct Ports {
 
 impl Ports {
     /// `count` inputs and as many outputs, or `None` where that is 0 or above 16.
+    // As `NonZero::new`, and no `TryFrom`: an error type would say no more than `None`.
     pub fn new(count: usize) -> Option<Ports>
         ensures { MatchOption result ((1 ≤ count) × (count ≤ 16) → ⊥) (λ ports. ports.count ≡ count) }
     {

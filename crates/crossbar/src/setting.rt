@@ -3,6 +3,7 @@ ghost use Rattle.crossbar.specs.Arrays.{Mirrors};
 ghost use Rattle.std.specs.Prelude.{◌≡◌, length};
 
 pub mod joining;
+pub mod moving;
 pub mod pairs;
 
 /// Joins inputs to outputs, of up to 16 each, and no port twice.

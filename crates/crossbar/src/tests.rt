@@ -114,3 +114,37 @@ fn many_packets_go_in_at_once_or_not_at_all(rt: HostRuntime) -> Result<(), Fail>
     assert_eq!(rt; demand.count(pair(0, 0)), MOST_LOAD);
     Ok(())
 }
+
+#[test]
+fn a_pair_is_joined_at_the_cost_of_others(rt: HostRuntime) {
+    let mut setting = Setting::empty();
+    assert!(rt; setting.join(pair(0, 3)));
+    assert!(rt; setting.join(pair(2, 1)));
+    setting.rejoin(pair(0, 1));
+    assert_eq!(rt; setting.input_of(1), Some(0));
+    assert_eq!(rt; setting.input_of(3), None);
+    assert_eq!(rt; setting.output_of(2), None);
+    setting.rejoin(pair(16, 1));
+    assert_eq!(rt; setting.input_of(1), Some(0));
+}
+
+#[test]
+fn a_turned_setting_joins_outputs_to_inputs(rt: HostRuntime) {
+    let mut setting = Setting::empty();
+    assert!(rt; setting.join(pair(0, 3)));
+    let turned = setting.turned();
+    assert_eq!(rt; turned.input_of(0), Some(3));
+    assert_eq!(rt; turned.output_of(3), Some(0));
+}
+
+#[test]
+fn a_side_tells_loads_and_links(rt: HostRuntime) -> Result<(), Fail> {
+    let demand = three_packets(&rt)?;
+    let side = demand.outputs();
+    assert_eq!(rt; side.ports.count(), 2);
+    assert_eq!(rt; side.load(1), 2);
+    assert_eq!(rt; side.load(16), 0);
+    assert!(rt; side.links(0).has(0) && !side.links(0).has(1));
+    assert!(rt; !side.links(16).has(0));
+    Ok(())
+}

@@ -50,15 +50,6 @@ unlike false b = b
 pub xor_bit : (a b k : ℕ) → bit (bit_xor a b) k ≡ unlike (bit a k) (bit b k)
 xor_bit = by_digit bit_xor differ unlike xor_shr xor_step (omega arith, omega arith, omega arith, omega arith) (refl, refl, refl, refl)
 
--- without
-without_bool : (a b : Bool) → unlike a (a && b) ≡ (a && not b)
-without_bool true true = refl
-without_bool true false = refl
-without_bool false b = refl
-
-pub minus_bit : (a b k : ℕ) → bit (bit_xor a (bit_and a b)) k ≡ (bit a k && not (bit b k))
-minus_bit a b k = xor_bit a (bit_and a b) k ∙ ap (unlike (bit a k)) (and_bit a b k) ∙ without_bool (bit a k) (bit b k)
-
 pub zero_bit : (k : ℕ) → bit 0 k ≡ false
 unfolding bit
 zero_bit k = let q : 0 / 2 ^ k < 1 = div_below 0 (2 ^ k) 1 (pow_pos k) (omega (arith, pow_pos k)) in ne_eqb _ _ (omega arith)
@@ -142,10 +133,6 @@ trailing_below (suc d) q k l = go (q % 2) refl (trailing_below d (q / 2)) k l
     go zero e rest (suc k) m = bit_next q k ∙ rest k (omega arith)
     go (suc r) e rest k m = absurd (omega arith)
 
-pub or_false : (a b : Bool) → b ≡ false → (a || b) ≡ a
-or_false true b e = refl
-or_false false b e = e
-
 -- a number of sixteen bits has no bit from 16 on
 pub high_none : (m k : ℕ) → m < 65536 → 16 ≤ k → bit m k ≡ false
 high_none m k small far = below_bit m k (omega (arith, pow_le 16 k far))
@@ -180,13 +167,6 @@ left_bit m kept j k small e = xor_bit m kept k ∙ ap (unlike (bit m k)) e ∙ t
         and_true true = refl
         and_true false = refl
     taken true b false h = absurd (false≢true (h refl))
-
--- a port put in, and a port taken out, as one choice
-pub put_in : (a e : Bool) → (a || e) ≡ cond e true a
-put_in true true = refl
-put_in true false = refl
-put_in false true = refl
-put_in false false = refl
 
 pub taken_out : (m j k : ℕ) → m < 65536 → (bit m k && not (eqb k j)) ≡ cond (eqb k j && ltb k 16) false (bit m k)
 taken_out m j k small = go (bit m k) (eqb k j) (ltb k 16) inside

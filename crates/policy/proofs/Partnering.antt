@@ -4,10 +4,9 @@ use Rattle.std.proofs.lemmas.Bool.{cases_lt, eqb-true, eq-eqb, le-ltb, lt-ltb, l
 use Rattle.crossbar.specs.Sums.{total}
 use Rattle.crossbar.proofs.Sums.{total_has, total_le, total_one}
 use Rattle.policy.specs.Graphs.{Once, Partners}
-use Rattle.policy.specs.Paths.{Inverse}
 use Rattle.policy.specs.Picked.{count, over}
-use Rattle.policy.specs.Settled.{partnered}
 use Rattle.policy.proofs.Counting.{flow, over_le}
+use Rattle.policy.proofs.Turning.{Inverse}
 
 -- 1 where a is b, and 0 elsewhere
 pub same : ℕ → ℕ → ℕ
@@ -38,6 +37,10 @@ pub joins_le : (n : ℕ) (s : Partners) → Once n s → (i : ℕ) → i < n →
 joins_le n s once i l =
     total_one n _ (λ j _. same_le (s j) i)
     (λ j k lj lk hj hk. let ej = same_eq (s j) i hj in let ek = same_eq (s k) i hk in once j k lj lk (omega arith) (omega arith))
+
+-- how many outputs have a partner
+abbrev pub partnered : ℕ → Partners → ℕ
+partnered n s = count n (λ j. ltb (s j) n)
 
 -- where every output with a partner keeps one, there are no fewer of them
 pub partnered_le : (n : ℕ) (s t : Partners) → ((j : ℕ) → j < n → s j < n → t j < n) → partnered n s ≤ partnered n t

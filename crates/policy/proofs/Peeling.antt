@@ -10,7 +10,7 @@ use Rattle.crossbar.specs.declared.port.Port.TheVariants.{Input, Output}
 use Rattle.crossbar.specs.declared.ports.Ports.{Ports}
 use Rattle.crossbar.proofs.Loads.{load_le, loads_le}
 use Rattle.policy.specs.Mending.{with_packets}
-use Rattle.policy.proofs.Starting.{packets_setting, packets_some, packets_tell}
+use Rattle.policy.proofs.Dropping.{packets_setting, packets_some, packets_tell}
 use Rattle.policy.specs.Raising.{Raised}
 
 module _ (d r : Demand) (up : Raised d r) where

@@ -1,21 +1,18 @@
 -- A search in its course: what it has reached, and one output more.
-use Rattle.std.proofs.Common.{◌≡◌, ℕ, ◌+◌, ◌-◌, ◌<◌, ◌≤◌, Bool, true, false, cond, not, ◌&&◌, ltb, List, length, set, sym, ap, ◌∙◌, subst, inl, inr, arith, length-set, get_or-set_other, get_or-set_same, below_more}
-use Rattle.std.proofs.lemmas.Bool.{cases_eq, cases_lt, both_ways, cases_Bool, ltb-true, lt-ltb, and_parts, and_from, not-true, not_from_true, not_from_false}
+use Rattle.std.proofs.Common.{◌≡◌, ℕ, ◌+◌, ◌-◌, ◌<◌, ◌≤◌, Bool, true, false, cond, not, ◌&&◌, sym, ap, ◌∙◌, subst, inl, inr, arith, below_more}
+use Rattle.std.proofs.lemmas.Bool.{cases_eq, cases_lt, both_ways, and_parts, not_from_true, not_from_false}
 use Rattle.mask.specs.Bits.{holds}
 use Rattle.crossbar.proofs.Sums.{total_le}
 use Rattle.mask.specs.declared.Mask.{Mask}
 use Rattle.policy.specs.Picked.{count}
 use Rattle.policy.proofs.Counting.{total_lt, total_ones}
 use Rattle.policy.specs.Graphs.{Graph, Partners, Stuck}
-use Rattle.policy.specs.Paths.{Tree, Ending, Held, place}
+use Rattle.policy.specs.Paths.{Tree, Held}
 use Rattle.policy.specs.Searching.{Course, Reach, Row, seen}
 
 -- g is f with x at c, and what f has below c
 abbrev pub Pushes : (ℕ → ℕ) → ℕ → ℕ → (ℕ → ℕ) → Type 0
 Pushes f c x g = (g c ≡ x) × ((k : ℕ) → k < c → g k ≡ f k)
-
-pub pushes_set : (xs : List ℕ) (c x : ℕ) → c < length xs → Pushes (place xs) c x (place (set xs c x))
-pushes_set xs c x l = (get_or-set_same xs c x 0 l, λ k m. get_or-set_other xs c k x 0 (omega arith))
 
 -- r is q with j
 abbrev pub Marks : (ℕ → Bool) → ℕ → (ℕ → Bool) → Type 0
@@ -34,12 +31,12 @@ count_more n q r j l new (here, others) =
     low : (k : ℕ) → q k ≡ false → cond (q k) 1 0 ≤ cond (r k) 1 0
     low k e = omega (arith, ap (λ b. cond {A = ℕ} b 1 0) e)
 
+at_most_one : (b : Bool) → cond b 1 0 ≤ 1
+at_most_one true = omega arith
+at_most_one false = omega arith
+
 pub count_le : (n : ℕ) (q : ℕ → Bool) → count n q ≤ n
-count_le n q = omega (arith, total_le n (λ k. cond (q k) 1 0) (λ _. 1) (λ k _. one (q k)), total_ones n)
-  where
-    one : (b : Bool) → cond b 1 0 ≤ 1
-    one true = omega arith
-    one false = omega arith
+count_le n q = omega (arith, total_le n (λ k. cond (q k) 1 0) (λ _. 1) (λ k _. at_most_one (q k)), total_ones n)
 
 module _ (n : ℕ) (d : Graph) (s : Partners) (w : ℕ) (ins outs par : ℕ → ℕ) (c : ℕ) (tree : Tree n d s ins outs par c) (q : ℕ → Bool) (p : ℕ) (reach : Reach n d w ins outs c q p) where
   -- the end of a search
@@ -137,152 +134,59 @@ tree_input n d s ins outs par c tree k l =
           omega (arith, tree.joined (k - 1) lc, tree.next (k - 1) lc, ap ins e)
     ]
 
-module _ (n : ℕ) (d : Graph) (s : Partners) (w : ℕ) (ins outs par : List ℕ) (unseen : Mask) (c p : ℕ) (k : Course n d s w ins outs par unseen c p) where
+module _ (n : ℕ) (d : Graph) (s : Partners) (w : ℕ) (ins outs par : ℕ → ℕ) (unseen : Mask) (c p : ℕ) (k : Course n d s w ins outs par unseen c p) where
   pub course_low : c ≤ n
   course_low = omega (arith, k.counted, count_le n (seen unseen))
 
-  pub course_end : (start : ℕ) → place ins 0 ≡ start → p ≡ c + 1 → Stuck n d s w start (seen unseen)
-  course_end start f e = subst (λ x. Stuck n d s w x (seen unseen)) f (stuck n d s w _ _ _ c k.tree (seen unseen) p k.reach e)
-
-  -- one input more is done
-  pub course_done : ((j : ℕ) → j < n → d.link (place ins p) j ≡ true → seen unseen j ≡ true) → Course n d s w ins outs par unseen c (p + 1)
-  course_done h =
-      record {
-        ins_length = k.ins_length;
-        outs_length = k.outs_length;
-        par_length = k.par_length;
-        inside = k.inside;
-        counted = k.counted;
-        tree = k.tree;
-        reach =
-            record {
-              seen = k.reach.seen;
-              listed = k.reach.listed;
-              heavy = k.reach.heavy;
-              done = below_more (λ a. (j : ℕ) → j < n → d.link (place ins a) j ≡ true → seen unseen j ≡ true) p k.reach.done h;
-            };
-      }
-
-  -- an output that ends a path
-  pub course_found : p ≤ c → (j : ℕ) → holds unseen j ≡ true → d.link (place ins p) j ≡ true → (Held n d s w j → ⊥) → Ending n d s w (place ins) (place outs) c p j
-  course_found low j new o free =
-      record {
-        low = low;
-        within = k.inside j new;
-        packet = o;
-        fresh = λ a m e. both_ways (seen unseen j) (not_from_true (holds unseen j) new) (ap (seen unseen) (sym e) ∙ k.reach.seen a m);
-        spare = λ l. elim (cases_lt (d.load (s j)) w) [ inl h ↦ h | inr h ↦ absurd (free (l, h)) ];
-      }
+  pub course_end : p ≡ c + 1 → Stuck n d s w (ins 0) (seen unseen)
+  course_end e = stuck n d s w _ _ _ c k.tree (seen unseen) p k.reach e
 
   -- one output more
-  module _ (j : ℕ) (v : Mask) (small : n ≤ 16) (low : p ≤ c) (new : holds unseen j ≡ true) (here : holds v j ≡ false) (others : (a : ℕ) → (a ≡ j → ⊥) → holds v a ≡ holds unseen a) where
+  module _ (j : ℕ) (v : Mask) (low : p ≤ c) (new : holds unseen j ≡ true) (here : holds v j ≡ false) (others : (a : ℕ) → (a ≡ j → ⊥) → holds v a ≡ holds unseen a)
+      (ins' outs' par' : ℕ → ℕ) (pi : Pushes ins (c + 1) (s j) ins') (po : Pushes outs c j outs') (pp : Pushes par c p par') where
     new' : seen unseen j ≡ false
     new' = not_from_true (holds unseen j) new
 
-    counted' : c + 1 ≤ count n (seen v)
-    counted' = omega (arith, k.counted, count_more n (seen unseen) (seen v) j (k.inside j new) new' (marks_clear unseen v j here others))
-
-    pub course_room : c < 16
-    course_room = omega (arith, counted', count_le n (seen v))
-
-    pub course_more : d.link (place ins p) j ≡ true → Held n d s w j → Course n d s w (set ins (c + 1) (s j)) (set outs c j) (set par c p) v (c + 1) p
+    pub course_more : d.link (ins p) j ≡ true → Held n d s w j → Course n d s w ins' outs' par' v (c + 1) p
     course_more o (sj, hj) =
-        let room = course_room in
         let l = k.inside j new in
-        let pi = pushes_set ins (c + 1) (s j) (omega (arith, k.ins_length)) in
-        let po = pushes_set outs c j (omega (arith, k.outs_length)) in
-        let pp = pushes_set par c p (omega (arith, k.par_length)) in
         let pr = marks_clear unseen v j here others in
         record {
-          ins_length = simp length-set k.ins_length;
-          outs_length = simp length-set k.outs_length;
-          par_length = simp length-set k.par_length;
           inside = λ a h. elim (cases_eq a j) [ inl e ↦ absurd (both_ways (holds v j) here (ap (holds v) (sym e) ∙ h)) | inr ne ↦ k.inside a (sym (others a ne) ∙ h) ];
-          counted = counted';
+          counted = omega (arith, k.counted, count_more n (seen unseen) (seen v) j l new' pr);
           tree = tree_more n d s w _ _ _ c k.tree (seen unseen) p k.reach j low l new' o sj hj _ _ _ _ pi po pp pr;
           reach = reach_more n d s w _ _ _ c k.tree (seen unseen) p k.reach j low l new' o sj hj _ _ _ _ pi po pp pr;
         }
 
-module _ (n : ℕ) (d : Graph) (s : Partners) (w start : ℕ) (row : Mask) (ins outs par : List ℕ) (unseen : Mask) (c p : ℕ) (r : Row n d s w start row ins outs par unseen c p) where
-  pub row_low : c ≤ n
-  row_low = course_low n d s w ins outs par unseen c p r.course
-
-  pub row_end : ((j : ℕ) → (holds row j && holds unseen j) ≡ false) → Course n d s w ins outs par unseen c (p + 1)
-  row_end none =
-      course_done n d s w ins outs par unseen c p r.course
-      (λ j l o.
-      elim (cases_Bool (holds unseen j)) [
-        | inl h ↦ absurd (both_ways _ (none j) (and_from (holds row j) (holds unseen j) (r.packets j l ∙ o) h))
-        | inr h ↦ not_from_false (holds unseen j) h
-      ])
-
-  module _ (small : n ≤ 16) (j : ℕ) (v : Mask) (both : (holds row j && holds unseen j) ≡ true) (here : holds v j ≡ false) (others : (a : ℕ) → (a ≡ j → ⊥) → holds v a ≡ holds unseen a) where
+module _ (n : ℕ) (d : Graph) (s : Partners) (w : ℕ) (row : Mask) (ins outs par : ℕ → ℕ) (unseen : Mask) (c p : ℕ) (r : Row n d s w row ins outs par unseen c p) where
+  module _ (j : ℕ) (v : Mask) (both : (holds row j && holds unseen j) ≡ true) (here : holds v j ≡ false) (others : (a : ℕ) → (a ≡ j → ⊥) → holds v a ≡ holds unseen a) where
     new : holds unseen j ≡ true
     new = (and_parts (holds row j) (holds unseen j) both).1
 
     mine : holds row j ≡ true
     mine = (and_parts (holds row j) (holds unseen j) both).0
 
-    pub row_room : c < 16
-    row_room = course_room n d s w ins outs par unseen c p r.course j v small r.low new here others
+    -- the output that comes next is joined
+    pub row_held : Held n d s w j
+    row_held = r.held j new mine
 
-    pub row_more : Row n d s w start row (set ins (c + 1) (s j)) (set outs c j) (set par c p) v (c + 1) p
-    row_more =
-        let l = r.course.inside j new in
-        let room = row_room in
-        let pi = pushes_set ins (c + 1) (s j) (omega (arith, r.course.ins_length)) in
+    pub row_more : (ins' outs' par' : ℕ → ℕ) → Pushes ins (c + 1) (s j) ins' → Pushes outs c j outs' → Pushes par c p par' → Row n d s w row ins' outs' par' v (c + 1) p
+    row_more ins' outs' par' pi po pp =
         record {
           low = omega (arith, r.low);
-          from_start = pi.1 0 (omega arith) ∙ r.from_start;
           course =
-              course_more n d s w ins outs par unseen c p r.course j v small r.low new here others
-              (sym (r.packets j l) ∙ mine) (r.held j new mine);
+              course_more n d s w ins outs par unseen c p r.course j v r.low new here others ins' outs' par' pi po pp
+              (sym (r.packets j (r.course.inside j new)) ∙ mine) row_held;
           packets = λ a m. r.packets a m ∙ ap (λ x. d.link x a) (sym (pi.1 p (omega (arith, r.low))));
           held = λ a h m. elim (cases_eq a j) [ inl e ↦ absurd (both_ways (holds v j) here (ap (holds v) (sym e) ∙ h)) | inr ne ↦ r.held a (sym (others a ne) ∙ h) m ];
         }
 
--- a search before its first step
-pub course_none : (n : ℕ) (d : Graph) (s : Partners) (w : ℕ) (ins outs par : List ℕ) (unseen : Mask) → length ins ≡ 17 → length outs ≡ 16 → length par ≡ 16 → ((k : ℕ) → holds unseen k ≡ ltb k n) → place ins 0 < n → w ≤ d.load (place ins 0) → ((j : ℕ) → j < n → s j ≡ place ins 0 → ⊥) → Course n d s w ins outs par unseen 0 0
-course_none n d s w ins outs par unseen li lo lp every root heavy free =
-    record {
-      ins_length = li;
-      outs_length = lo;
-      par_length = lp;
-      inside = λ k h. ltb-true k n (sym (every k) ∙ h);
-      counted = omega arith;
-      tree =
-          record {
-            root = root;
-            unjoined = free;
-            within = λ k l. omega arith;
-            joined = λ k l. omega arith;
-            next = λ k l. omega arith;
-            apart = λ a b l m. omega arith;
-            earlier = λ k l. omega arith;
-            packet = λ k l. absurd (omega arith);
-          };
-      reach =
-          record {
-            seen = λ k l. absurd (omega arith);
-            listed = λ j l h. absurd (both_ways (holds unseen j) (not-true (holds unseen j) h) (every j ∙ lt-ltb j n l));
-            heavy = λ k l. let z : k ≡ 0 = omega arith in subst (λ x. w ≤ d.load (place ins x)) (sym z) heavy;
-            done = λ k l. absurd (omega arith);
-          };
-    }
-
-pub no_end : (a b e x y : Bool) → x ≡ (a && b) → y ≡ (x && e) → y ≡ false → a ≡ true → b ≡ true → e ≡ false
-no_end a b e x y f g h p q = elim (cases_Bool e) [ inl t ↦ absurd (both_ways y h (g ∙ and_from x e (f ∙ and_from a b p q) t)) | inr t ↦ t ]
-
 -- a set that lacks a number below n has fewer than n
 pub count_short : (n : ℕ) (q : ℕ → Bool) (j : ℕ) → j < n → q j ≡ false → count n q < n
 count_short n q j l lacks =
-    omega (arith, total_lt n (λ k. cond (q k) 1 0) (λ _. 1) j (λ k _. one (q k)) l (omega (arith, ap (λ b. cond {A = ℕ} b 1 0) lacks)), total_ones n)
-  where
-    one : (b : Bool) → cond b 1 0 ≤ 1
-    one true = omega arith
-    one false = omega arith
+    omega (arith, total_lt n (λ k. cond (q k) 1 0) (λ _. 1) j (λ k _. at_most_one (q k)) l (omega (arith, ap (λ b. cond {A = ℕ} b 1 0) lacks)), total_ones n)
 
 -- while an output is unseen, there is room for one more
-pub course_space : (n : ℕ) (d : Graph) (s : Partners) (w : ℕ) (ins outs par : List ℕ) (unseen : Mask) (c p : ℕ) → Course n d s w ins outs par unseen c p → (j : ℕ) → holds unseen j ≡ true → c < n
+pub course_space : (n : ℕ) (d : Graph) (s : Partners) (w : ℕ) (ins outs par : ℕ → ℕ) (unseen : Mask) (c p : ℕ) → Course n d s w ins outs par unseen c p → (j : ℕ) → holds unseen j ≡ true → c < n
 course_space n d s w ins outs par unseen c p k j new =
     omega (arith, k.counted, count_short n (seen unseen) j (k.inside j new) (not_from_true (holds unseen j) new))

@@ -1,26 +1,34 @@
 -- One side of a demand as a graph, and settings as partners. Said of inputs and outputs; of the other side, exchange the two words.
-use Rattle.std.specs.Prelude.{◌≡◌, ℕ, ◌<◌, ◌≤◌, Bool, true, List, ◌≢◌, nat_lt, slice_index, slice_index_or}
-use Rattle.crossbar.specs.Arrays.{no_ports}
+use Rattle.std.specs.Prelude.{◌≡◌, ℕ, ◌<◌, ◌≤◌, Bool, true, Some, ◌≢◌, nat_lt}
+use Rattle.std.specs.Option.{unwrap_or}
+use Rattle.crossbar.specs.Joining.{IsSetting, Joins}
 use Rattle.crossbar.specs.Loads.{Counts, load}
+use Rattle.crossbar.specs.Models.{links_at, load_at}
 use Rattle.crossbar.specs.declared.port.Port.TheVariants.{Input}
+use Rattle.crossbar.specs.declared.side.Side.{Side}
 use Rattle.mask.specs.Bits.{holds}
-use Rattle.mask.specs.declared.Mask.{Mask}
 
 -- link i j: input i has packets for output j; load i: how many wait at input i
 pub record Graph : Type 0 where
   pub link : ℕ → ℕ → Bool
   pub load : ℕ → ℕ
 
--- the graph that masks and loads hold
-abbrev pub graph : List Mask → List ℕ → Graph
-graph masks loads = record { link = λ i j. holds (slice_index_or masks i no_ports) j; load = λ i. slice_index loads i }
+-- the graph of one side of a demand
+abbrev pub graph_of : Side → Graph
+graph_of side = record { link = λ i j. holds (links_at side i) j; load = λ i. load_at side i }
+
+-- a setting of n inputs and n outputs, each joined pair of which has a packet
+pub record Fits (n : ℕ) (d : Graph) (s : Joins) : Type 0 where
+  pub setting : IsSetting n s
+  pub packet : (i j : ℕ) → s j ≡ Some i → d.link i j ≡ true
 
 -- each output's input, or a number that is none (n or more)
 abbrev pub Partners : Type 0
 Partners = ℕ → ℕ
 
-abbrev pub partners : List ℕ → Partners
-partners xs j = slice_index xs j
+-- the partners that a setting joins; no crossbar has an input 16
+abbrev pub partners : Joins → Partners
+partners s j = unwrap_or (s j) 16
 
 abbrev pub OutJoined : ℕ → Partners → ℕ → Type 0
 OutJoined n s j = s j < n

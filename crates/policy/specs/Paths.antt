@@ -1,12 +1,8 @@
 -- The tree of a search along alternating paths, and what mending along one of its paths gives.
-use Rattle.std.specs.Prelude.{◌≡◌, ℕ, ◌+◌, ◌<◌, ◌≤◌, true, false, List, ◌≢◌, slice_index}
+use Rattle.std.specs.Prelude.{◌≡◌, ℕ, ◌+◌, ◌<◌, ◌≤◌, true, false, ◌≢◌}
 use Rattle.mask.specs.Bits.{holds}
 use Rattle.mask.specs.declared.Mask.{Mask}
 use Rattle.policy.specs.Graphs.{Graph, Partners, Keeps, InJoined, OutJoined}
-
--- an array as a function of the place
-abbrev pub place : List ℕ → ℕ → ℕ
-place xs k = slice_index xs k
 
 -- The first c outputs that a search from ins 0 reached, in their order: outs k is joined to ins (k + 1), and was reached by a packet of ins (par k).
 pub record Tree (n : ℕ) (d : Graph) (s : Partners) (ins outs par : ℕ → ℕ) (c : ℕ) : Type 0 where
@@ -38,19 +34,9 @@ pub record Mended (n : ℕ) (d : Graph) (s : Partners) (w start : ℕ) (t : Part
   pub grown : Grown n d s w t
   pub start_joined : InJoined n t start
 
--- a tree with a path that ends
-abbrev pub PathFound : ℕ → Graph → Partners → ℕ → (ℕ → ℕ) → (ℕ → ℕ) → (ℕ → ℕ) → ℕ → ℕ → Type 0
-PathFound n d s w ins outs par at output =
-    (c : ℕ) × (c ≤ 16) × (Tree n d s ins outs par c × Ending n d s w ins outs c at output)
-
 -- every input of load w or more is joined
 abbrev pub Full : ℕ → Graph → ℕ → Partners → Type 0
 Full n d w s = (i : ℕ) → i < n → w ≤ d.load i → InJoined n s i
-
--- t gives each input the output that s joins it to
-pub record Inverse (n : ℕ) (s t : Partners) : Type 0 where
-  pub there : (j : ℕ) → j < n → s j < n → t (s j) ≡ j
-  pub back : (i : ℕ) → i < n → t i < n → s (t i) ≡ i
 
 -- the output j is joined to an input of load w or more
 abbrev pub Held : ℕ → Graph → Partners → ℕ → ℕ → Type 0

@@ -1,10 +1,10 @@
 -- A search in its course: what it has reached so far.
-use Rattle.std.specs.Prelude.{◌≡◌, ℕ, ◌+◌, ◌<◌, ◌≤◌, Bool, true, not, List, length}
+use Rattle.std.specs.Prelude.{◌≡◌, ℕ, ◌+◌, ◌<◌, ◌≤◌, Bool, true, not}
 use Rattle.mask.specs.Bits.{holds}
 use Rattle.mask.specs.declared.Mask.{Mask}
 use Rattle.policy.specs.Graphs.{Graph, Partners}
 use Rattle.policy.specs.Picked.{count}
-use Rattle.policy.specs.Paths.{Held, Tree, place}
+use Rattle.policy.specs.Paths.{Held, Tree}
 
 -- q are the c outputs that were reached, and every packet of the first p inputs is for one of them
 pub record Reach (n : ℕ) (d : Graph) (w : ℕ) (ins outs : ℕ → ℕ) (c : ℕ) (q : ℕ → Bool) (p : ℕ) : Type 0 where
@@ -17,20 +17,16 @@ pub record Reach (n : ℕ) (d : Graph) (w : ℕ) (ins outs : ℕ → ℕ) (c : �
 abbrev pub seen : Mask → ℕ → Bool
 seen unseen k = not (holds unseen k)
 
--- the arrays of a search that has reached c outputs, all but those in `unseen`, and is done with the first p inputs
-pub record Course (n : ℕ) (d : Graph) (s : Partners) (w : ℕ) (ins outs par : List ℕ) (unseen : Mask) (c p : ℕ) : Type 0 where
-  pub ins_length : length ins ≡ 17
-  pub outs_length : length outs ≡ 16
-  pub par_length : length par ≡ 16
+-- a search that has reached c outputs, all but those in `unseen`, and is done with the first p inputs
+pub record Course (n : ℕ) (d : Graph) (s : Partners) (w : ℕ) (ins outs par : ℕ → ℕ) (unseen : Mask) (c p : ℕ) : Type 0 where
   pub inside : (k : ℕ) → holds unseen k ≡ true → k < n
   pub counted : c ≤ count n (seen unseen)
-  pub tree : Tree n d s (place ins) (place outs) (place par) c
-  pub reach : Reach n d w (place ins) (place outs) c (seen unseen) p
+  pub tree : Tree n d s ins outs par c
+  pub reach : Reach n d w ins outs c (seen unseen) p
 
 -- a search in the row of ins p, which has packets for the outputs in `row`; of those that are unseen each is joined to an input of load w or more
-pub record Row (n : ℕ) (d : Graph) (s : Partners) (w start : ℕ) (row : Mask) (ins outs par : List ℕ) (unseen : Mask) (c p : ℕ) : Type 0 where
+pub record Row (n : ℕ) (d : Graph) (s : Partners) (w : ℕ) (row : Mask) (ins outs par : ℕ → ℕ) (unseen : Mask) (c p : ℕ) : Type 0 where
   pub low : p ≤ c
-  pub from_start : place ins 0 ≡ start
   pub course : Course n d s w ins outs par unseen c p
-  pub packets : (j : ℕ) → j < n → holds row j ≡ d.link (place ins p) j
+  pub packets : (j : ℕ) → j < n → holds row j ≡ d.link (ins p) j
   pub held : (j : ℕ) → holds unseen j ≡ true → holds row j ≡ true → Held n d s w j

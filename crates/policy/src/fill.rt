@@ -1,103 +1,86 @@
 //! Joining every port of one side that has a large load.
-ghost use Rattle.std.specs.Prelude.{◌≡◌, ℕ, ◌<◌, ◌≤◌, true, false, Some, None, ◌≢◌};
+ghost use Rattle.std.specs.Prelude.{◌≡◌, ℕ, ◌<◌, ◌≤◌, true, false};
 ghost use Rattle.crossbar.specs.Loads.{Counts, load};
 ghost use Rattle.crossbar.specs.declared.port.Port.TheVariants.{Output};
-ghost use Rattle.policy.specs.Graphs.{Keeps, Partners, Weighs, partners};
-ghost use Rattle.policy.specs.Kernel.{JoinedOne, graph_of};
-ghost use Rattle.policy.specs.Paths.{Full, Grown, Inverse, Spare};
+ghost use Rattle.policy.specs.Graphs.{Keeps, Partners, Weighs, graph_of};
+ghost use Rattle.policy.specs.Kernel.{Alike, Ends, FirstOpen, GrownFrom, IsFull, JoinedOne, is_open, ports_of};
+ghost use Rattle.policy.specs.Paths.{Full};
 
-use crate::search::search;
-use crate::shift::shift;
-use crate::trail::Trail;
-use crossbar::side::Side;
+use crate::mending::Mending;
 use mask::Mask;
 
-/// Joins every input of a load of `want` or more, along paths, and keeps joined what was. It answers whether it could:
-/// where not, no setting at all joins them all. Nothing changes where they all were joined.
-pub(crate) fn fill(side: Side<'_>, want: u16, from: &mut [u8; 16], to: &mut [u8; 16]) -> bool
-    requires small { side.ports ≤ 16 }
-    requires keeps { Keeps side.ports (graph_of side) (partners from.old) }
-    requires pairs { Inverse side.ports (partners from.old) (partners to.old) }
-    ensures grown { Grown side.entry.ports (graph_of side.entry) (partners from.old) want (partners from.new) }
-    ensures pairs { Inverse side.entry.ports (partners from.new) (partners to.new) }
-    ensures full { result ≡ true → Full side.entry.ports (graph_of side.entry) want (partners from.new) }
-    ensures best { result ≡ false → (t : Partners) → Keeps side.entry.ports (graph_of side.entry) t → Full side.entry.ports (graph_of side.entry) want t → ⊥ }
-    ensures still { Full side.entry.ports (graph_of side.entry) want (partners from.old) → (from.new ≡ from.old) × (to.new ≡ to.old) }
-    ensures critical { (c : Counts) → Weighs side.entry.ports (graph_of side.entry) c → 0 < want → ((j : ℕ) → j < side.entry.ports → load side.entry.ports c (Output j) ≤ want) → result ≡ true }
-{
-    let first = first_open(side, want, to);
-    if first == side.ports {
-        return true;
-    }
-    let mut ends = ends_of(side, want, from, to);
-    for input in first..side.ports {
-        if side.loads[input as usize] >= want && to[input as usize] >= side.ports {
-            match join_one(side, want, ends, from, to, input) {
-                Some(left) => ends = left,
-                None => return false,
+impl Mending<'_> {
+    /// Joins every input of a load of `want` or more, along paths, and keeps joined what was. It answers whether it
+    /// could: where not, no setting at all joins them all. Nothing changes where they all were joined.
+    pub(crate) fn fill(&mut self) -> bool
+        ensures alike { Alike self.old self.new }
+        ensures grown { GrownFrom self.old self.new }
+        ensures full { result ≡ true → IsFull self.new }
+        ensures best { result ≡ false → (t : Partners) → Keeps (ports_of self.old) (graph_of self.old.side) t → Full (ports_of self.old) (graph_of self.old.side) self.old.want t → ⊥ }
+        ensures still { IsFull self.old → self.new.setting ≡ self.old.setting }
+        ensures critical { (c : Counts) → Weighs (ports_of self.old) (graph_of self.old.side) c → 0 < self.old.want → ((j : ℕ) → j < ports_of self.old → load (ports_of self.old) c (Output j) ≤ self.old.want) → result ≡ true }
+    {
+        let Some(first) = self.first_open() else {
+            return true;
+        };
+        let mut ends = self.ends();
+        for input in first..self.side.ports.count() {
+            if self.is_open(input) {
+                match self.join_one(ends, input) {
+                    Some(left) => ends = left,
+                    None => return false,
+                }
             }
         }
+        true
     }
-    true
-}
 
-/// The first input of a load of `want` or more that is not joined, or n.
-fn first_open(side: Side<'_>, want: u16, to: &[u8; 16]) -> u8
-    requires { side.ports ≤ 16 }
-    ensures within { result ≤ side.entry.ports }
-    ensures here { result < side.entry.ports → (want ≤ (graph_of side.entry).load result) × (side.entry.ports ≤ partners to.now result) }
-    ensures before { (k : ℕ) → k < result → want ≤ (graph_of side.entry).load k → partners to.now k < side.entry.ports }
-{
-    for input in 0..side.ports {
-        if side.loads[input as usize] >= want && to[input as usize] >= side.ports {
-            return input;
-        }
+    /// Whether an input has a load of `want` or more and is not joined.
+    fn is_open(&self, input: u8) -> bool
+        ensures { result ≡ is_open self.now input }
+    {
+        self.side.load(input) >= self.want && self.setting.output_of(input).is_none()
     }
-    side.ports
-}
 
-/// The outputs that end a path: those that are free, or joined to an input of a load below `want`.
-fn ends_of(side: Side<'_>, want: u16, from: &[u8; 16], to: &[u8; 16]) -> Mask
-    requires small { side.ports ≤ 16 }
-    requires pairs { Inverse side.ports (partners from.now) (partners to.now) }
-    ensures { Spare side.entry.ports (graph_of side.entry) (partners from.now) want result }
-{
-    let mut ends = Mask::below(side.ports);
-    for input in 0..side.ports {
-        let output = to[input as usize];
-        if side.loads[input as usize] >= want && output < side.ports {
-            ends = ends.without(output);
+    /// The first input that is open, if any.
+    // No `find` over the range: that its closure is asked in order was not proved.
+    fn first_open(&self) -> Option<u8>
+        ensures { FirstOpen self.now result }
+    {
+        for input in 0..self.side.ports.count() {
+            if self.is_open(input) {
+                return Some(input);
+            }
         }
+        None
     }
-    ends
-}
 
-/// Joins one input along a path, and answers the outputs that still end one; none where the search is stuck, and then
-/// nothing changes.
-fn join_one(
-    side: Side<'_>,
-    want: u16,
-    ends: Mask,
-    from: &mut [u8; 16],
-    to: &mut [u8; 16],
-    start: u8,
-) -> Option<Mask>
-    requires small { side.ports ≤ 16 }
-    requires ends { Spare side.ports (graph_of side) (partners from.old) want ends }
-    requires keeps { Keeps side.ports (graph_of side) (partners from.old) }
-    requires pairs { Inverse side.ports (partners from.old) (partners to.old) }
-    requires within { start < side.ports }
-    requires heavy { want ≤ (graph_of side).load start }
-    requires unjoined { (j : ℕ) → j < side.ports → partners from.old j ≢ start }
-    ensures joined { JoinedOne side.entry from.old want start from.new result }
-    ensures pairs { Inverse side.entry.ports (partners from.new) (partners to.new) }
-{
-    let mut trail = Trail::new(side, from, want, start);
-    match search(side, from, want, ends, &mut trail) {
-        Some(end) => {
-            shift(side, want, &trail, end, from, to);
-            Some(ends.without(end.output))
+    /// The outputs that end a path: those that are free, or joined to an input of a load below `want`.
+    fn ends(&self) -> Mask
+        ensures { Ends self.now result }
+    {
+        let mut ends = Mask::below(self.side.ports.count());
+        for input in 0..self.side.ports.count() {
+            if self.side.load(input) >= self.want {
+                if let Some(output) = self.setting.output_of(input) {
+                    ends = ends.without(output);
+                }
+            }
         }
-        None => None,
+        ends
+    }
+
+    /// Joins one input along a path, and answers the outputs that still end one; none where the search is stuck, and
+    /// then nothing changes.
+    fn join_one(&mut self, ends: Mask, start: u8) -> Option<Mask>
+        requires ends { Ends self.old ends }
+        requires within { start < ports_of self.old }
+        requires open { is_open self.old start ≡ true }
+        ensures alike { Alike self.old self.new }
+        ensures joined { JoinedOne self.old start self.new result }
+    {
+        let path = self.search(ends, start)?;
+        self.shift(&path);
+        Some(ends.without(path.output))
     }
 }

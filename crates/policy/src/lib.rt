@@ -1,7 +1,7 @@
 //! Policies: which setting serves a demand next.
 //!
 //! All stand on one kernel: `fill` joins every port of one side that has a large load, along paths that `search` finds
-//! and `shift` flips.
+//! and `shift` flips, in a setting that is being mended.
 #![tactic(auto)]
 
 ghost use Rattle.crossbar.specs.Clearing.{Lawful};
@@ -14,9 +14,12 @@ use crossbar::setting::Setting;
 
 mod fill;
 pub mod mend;
+mod mending;
+mod packets;
 pub mod path;
 pub mod peel;
 pub mod raise;
+pub mod rule;
 mod search;
 mod settle;
 mod shift;

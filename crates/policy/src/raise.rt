@@ -15,6 +15,7 @@ pub fn raise(demand: &Demand) -> Demand
     let mut raised = *demand;
     let mut input = 0;
     let mut output = 0;
+    // A step moves one of the two cursors, by the loads so far, so that no range or iterator counts the steps.
     while input < ports && output < ports {
         let at_input = level - raised.load(Port::Input(input));
         let at_output = level - raised.load(Port::Output(output));

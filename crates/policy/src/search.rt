@@ -1,37 +1,56 @@
 //! The search for a path along which one input more can be joined.
-ghost use Rattle.std.specs.Prelude.{◌≡◌, ◌≤◌};
-ghost use Rattle.policy.specs.Graphs.{partners};
-ghost use Rattle.policy.specs.Kernel.{OnCourse, Searched, graph_of};
-ghost use Rattle.policy.specs.Paths.{Spare, place};
+ghost use Rattle.std.specs.Prelude.{◌≡◌, ◌+◌, ◌<◌, ◌≤◌, true};
+ghost use Rattle.arrayvec.specs.ArrayVec.{array_vec_len};
+ghost use Rattle.policy.specs.Kernel.{Ends, InRow, OnCourse, Searched, is_open, ports_of};
 
-use crate::trail::{End, Trail};
-use crossbar::side::Side;
+use crate::mending::Mending;
+use crate::trail::{MOST_PLACES, Path, Step, Trail};
 use mask::Mask;
 
-/// Searches along paths that alternate between packets and joined pairs, from the first input of a trail to an output
-/// in `ends`: one that is free, or joined to an input of a load below `want`.
-pub(crate) fn search(
-    side: Side<'_>,
-    from: &[u8; 16],
-    want: u16,
-    ends: Mask,
-    trail: &mut Trail,
-) -> Option<End>
-    requires small { side.ports ≤ 16 }
-    requires ends { Spare side.ports (graph_of side) (partners from.now) want ends }
-    requires course { OnCourse side (partners from.now) want trail.old 0 }
-    ensures start { place trail.new.inputs 0 ≡ place trail.old.inputs 0 }
-    ensures found { Searched side.entry (partners from.now) want trail.new result }
-{
-    let mut at: usize = 0;
-    while at <= trail.reached {
-        let row = side.masks[trail.inputs[at] as usize];
-        let hits = row.meet(trail.unseen).meet(ends);
-        if let Some(output) = hits.lowest() {
-            return Some(End { at, output });
+impl Mending<'_> {
+    /// Searches along paths that alternate between packets and joined pairs, from the open input `start` to an output
+    /// in `ends`: one that is free, or joined to an input of a load below `want`. None where the search is stuck.
+    pub(crate) fn search(&self, ends: Mask, start: u8) -> Option<Path>
+        requires ends { Ends self.now ends }
+        requires within { start < ports_of self.now }
+        requires open { is_open self.now start ≡ true }
+        ensures { Searched self.now start result }
+    {
+        let mut trail = Trail::new(start, self.side.ports);
+        for place in 0..MOST_PLACES {
+            let Some(input) = trail.input_at(place) else {
+                break;
+            };
+            let row = self.side.links(input);
+            if let Some(output) = row.meet(trail.unseen).meet(ends).lowest() {
+                return Some(Path {
+                    trail,
+                    place,
+                    output,
+                });
+            }
+            self.spread(&mut trail, row, place);
         }
-        trail.spread(side, from, want, row, at);
-        at += 1;
+        None
     }
-    None
+
+    /// Reaches every output in `row`, the outputs that the input at `place` has packets for.
+    fn spread(&self, trail: &mut Trail, row: Mask, place: usize)
+        requires { InRow self.now row trail.old place }
+        ensures start { trail.new.start ≡ trail.old.start }
+        ensures low { place ≤ array_vec_len trail.new.steps }
+        ensures course { OnCourse self.now trail.new (place + 1) }
+    {
+        while let Some(output) = row.meet(trail.unseen).lowest() {
+            trail.unseen = trail.unseen.without(output);
+            // Each of them is joined, since none ends a path.
+            if let Some(input) = self.setting.input_of(output) {
+                trail.steps.push(Step {
+                    input,
+                    output,
+                    parent: place,
+                });
+            }
+        }
+    }
 }

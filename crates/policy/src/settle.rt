@@ -1,29 +1,38 @@
 //! Joining every critical port of a demand.
 ghost use Rattle.std.specs.Prelude.{◌≡◌, ◌≤◌};
-ghost use Rattle.crossbar.specs.Models.{size, waiting};
-ghost use Rattle.policy.specs.Graphs.{partners};
-ghost use Rattle.policy.specs.Paths.{Inverse};
-ghost use Rattle.policy.specs.Settled.{Covers, Matched, partnered};
+ghost use Rattle.crossbar.specs.Clearing.{Lawful};
+ghost use Rattle.crossbar.specs.Models.{input_at, size, waiting};
+ghost use Rattle.policy.specs.Mending.{pair_count};
+ghost use Rattle.policy.specs.Settled.{Matched};
 
-use crate::fill::fill;
+use crate::mending::Mending;
 use crossbar::demand::Demand;
+use crossbar::setting::Setting;
 
-/// Joins every critical port, along paths, and keeps the critical ports joined that were. `from` has the input of each
-/// output, and `to` the output of each input. No fewer pairs are joined than before, and nothing changes where every
-/// critical port was joined.
-pub(crate) fn settle(demand: &Demand, from: &mut [u8; 16], to: &mut [u8; 16])
-    requires matched { Matched (size demand.now) (waiting demand.now) (partners from.old) }
-    requires pairs { Inverse (size demand.now) (partners from.old) (partners to.old) }
-    ensures matched { Matched (size demand.now) (waiting demand.now) (partners from.new) }
-    ensures covers { Covers (size demand.now) (waiting demand.now) (partners from.new) }
-    ensures pairs { Inverse (size demand.now) (partners from.new) (partners to.new) }
-    ensures grown { partnered (size demand.now) (partners from.old) ≤ partnered (size demand.now) (partners from.new) }
-    ensures still { Covers (size demand.now) (waiting demand.now) (partners from.old) → from.new ≡ from.old }
+/// The setting `start` with every critical port joined, along paths, and with the critical ports joined that were.
+///
+/// No fewer pairs are joined than before, and nothing changes where every critical port was joined.
+pub(crate) fn settle(demand: &Demand, start: &Setting) -> Setting
+    requires { Matched (size demand.now) (waiting demand.now) (input_at start.now) }
+    ensures lawful { Lawful (size demand.now) (waiting demand.now) (input_at result) }
+    ensures grown { pair_count (input_at start.now) ≤ pair_count (input_at result) }
+    ensures still { Lawful (size demand.now) (waiting demand.now) (input_at start.now) → input_at result ≡ input_at start.now }
 {
     let want = demand.largest_load();
     if want == 0 {
-        return;
+        return *start;
     }
-    let _inputs = fill(demand.inputs(), want, from, to);
-    let _outputs = fill(demand.outputs(), want, to, from);
+    let mut by_inputs = Mending {
+        side: demand.inputs(),
+        want,
+        setting: *start,
+    };
+    let _joined = by_inputs.fill();
+    let mut by_outputs = Mending {
+        side: demand.outputs(),
+        want,
+        setting: by_inputs.setting.turned(),
+    };
+    let _joined = by_outputs.fill();
+    by_outputs.setting.turned()
 }

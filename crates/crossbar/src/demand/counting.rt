@@ -1,14 +1,15 @@
 //! Making a demand, adding packets, and reading counts and loads.
-ghost use Rattle.std.specs.Prelude.{◌≡◌, ◌+◌, ◌*◌, true, Decides, slice_index};
+ghost use Rattle.std.specs.Prelude.{◌≡◌, ◌+◌, ◌≤◌, true, Decides, if◌then◌else◌};
 ghost use Rattle.crossbar.specs.Calls.{Added, AddedMany};
 ghost use Rattle.crossbar.specs.Clearing.{NoFewer};
-ghost use Rattle.crossbar.specs.Loads.{Critical, more, nothing};
+ghost use Rattle.crossbar.specs.Loads.{Critical, nothing, with_count};
 ghost use Rattle.crossbar.specs.Models.{has_pair, has_room, has_room_for, largest_of, load_of, size, waiting};
+ghost use Rattle.crossbar.specs.declared.port.Port.TheVariants.{Input, Output};
 
 use super::{Demand, MOST_LOAD};
-use crate::port::{MOST_PORTS, Pair, Port};
+use crate::port::{Pair, Port};
 use crate::ports::Ports;
-use mask::Mask;
+use crate::side::PortLoad;
 
 impl Demand {
     /// A demand in which nothing waits.
@@ -16,14 +17,12 @@ impl Demand {
         ensures ports { result.ports ≡ ports }
         ensures empty { waiting result ≡ nothing }
     {
-        let none = Mask::empty();
+        let idle = PortLoad::idle();
         Demand {
             ports,
-            counts: [0; 256],
-            inputs: [0; 16],
-            outputs: [0; 16],
-            rows: [none; 16],
-            columns: [none; 16],
+            counts: [[0; 16]; 16],
+            inputs: [idle; 16],
+            outputs: [idle; 16],
         }
     }
 
@@ -49,7 +48,7 @@ impl Demand {
         if !self.has_pair(pair) {
             return 0;
         }
-        self.counts[cell_of(pair)]
+        self.counts[pair.input as usize][pair.output as usize]
     }
 
     /// The load of a port: all packets that wait at an input, or for an output; 0 where there is no such port.
@@ -57,8 +56,8 @@ impl Demand {
         ensures { result ≡ load_of self.now port }
     {
         match port {
-            Port::Input(input) => load_at(&self.inputs, input),
-            Port::Output(output) => load_at(&self.outputs, output),
+            Port::Input(input) => self.inputs().load(input),
+            Port::Output(output) => self.outputs().load(output),
         }
     }
 
@@ -67,13 +66,9 @@ impl Demand {
         ensures value { result ≡ largest_of self.now }
         ensures fewest { NoFewer (size self.now) (waiting self.now) result }
     {
-        let mut largest: u16 = 0;
-        for port in 0..self.ports.count() {
-            let input = self.load(Port::Input(port));
-            let output = self.load(Port::Output(port));
-            largest = largest.max(input).max(output);
-        }
-        largest
+        let at_inputs = self.inputs().largest_load();
+        let at_outputs = self.outputs().largest_load();
+        at_inputs.max(at_outputs)
     }
 
     /// Whether a port is critical: its load is the largest, and that is at least 1.
@@ -88,27 +83,16 @@ impl Demand {
     pub fn has_room(&self, pair: Pair) -> bool
         ensures { result ≡ has_room 1024 self.now pair }
     {
-        self.has_pair(pair)
-            && self.load(Port::Input(pair.input)) < MOST_LOAD
-            && self.load(Port::Output(pair.output)) < MOST_LOAD
+        self.has_room_for(pair, 1)
     }
 
     /// Adds one packet for a pair, and says whether there was room; where there was none, nothing changes.
+    // A `bool`, as `HashSet::insert` gives: why a packet is refused is for a batch to say, by its own bound.
     #[must_use]
     pub fn add(&mut self, pair: Pair) -> bool
         ensures { Added self.old pair result self.new }
     {
-        if !self.has_room(pair) {
-            return false;
-        }
-        self.counts[cell_of(pair)] += 1;
-        self.inputs[pair.input as usize] += 1;
-        self.outputs[pair.output as usize] += 1;
-        self.rows[pair.input as usize] = self.rows[pair.input as usize].set(pair.output, true);
-        self.columns[pair.output as usize] = self.columns[pair.output as usize].set(
-            pair.input, true,
-        );
-        true
+        self.add_many(pair, 1)
     }
 
     /// Adds `count` packets for a pair, and says whether there was room for all of them: the demand has the pair, and
@@ -120,7 +104,7 @@ impl Demand {
         if !self.has_room_for(pair, count) {
             return false;
         }
-        self.put(pair, count);
+        self.recount(pair, self.count(pair) + count);
         true
     }
 
@@ -136,36 +120,18 @@ impl Demand {
         count <= left_at_input && count <= left_at_output
     }
 
-    /// Raises a pair's count and both its loads by `count`, for which there is room.
-    fn put(&mut self, pair: Pair, count: u16)
-        requires { has_room_for 1024 count self.old pair ≡ true }
+    /// Makes the count of a pair `count`, for which both its loads have room.
+    pub(super) fn recount(&mut self, pair: Pair, count: u16)
+        requires pair { has_pair self.old pair ≡ true }
+        requires input { load_of self.old (Input pair.input) + count ≤ 1024 + waiting self.old pair.input pair.output }
+        requires output { load_of self.old (Output pair.output) + count ≤ 1024 + waiting self.old pair.input pair.output }
         ensures ports { self.new.ports ≡ self.old.ports }
-        ensures after { waiting self.new ≡ more count pair.input pair.output (waiting self.old) }
+        ensures after { waiting self.new ≡ with_count count pair.input pair.output (waiting self.old) }
     {
-        let cell = cell_of(pair);
-        let sum = self.counts[cell] + count;
-        self.counts[cell] = sum;
-        self.inputs[pair.input as usize] += count;
-        self.outputs[pair.output as usize] += count;
-        self.rows[pair.input as usize] = self.rows[pair.input as usize].set(pair.output, sum > 0);
-        self.columns[pair.output as usize] = self.columns[pair.output as usize].set(
-            pair.input,
-            sum > 0,
-        );
+        let (input, output) = (pair.input as usize, pair.output as usize);
+        let old = self.counts[input][output];
+        self.counts[input][output] = count;
+        self.inputs[input].recount(pair.output, old, count);
+        self.outputs[output].recount(pair.input, old, count);
     }
-}
-
-/// The load that is kept for a port, or 0 for a port beyond all that are kept.
-fn load_at(loads: &[u16], port: u8) -> u16
-    ensures { result ≡ slice_index loads.now port }
-{
-    let port = port as usize;
-    if port < loads.len() { loads[port] } else { 0 }
-}
-
-/// Where the count of a pair is kept: sixteen counts an input.
-pub(super) fn cell_of(pair: Pair) -> usize
-    ensures { result ≡ pair.input * 16 + pair.output }
-{
-    pair.input as usize * MOST_PORTS as usize + pair.output as usize
 }

@@ -5,7 +5,6 @@ ghost use Rattle.crossbar.specs.Loads.{one_less, packets};
 ghost use Rattle.crossbar.specs.Models.{size, waiting};
 
 use super::Demand;
-use super::counting::cell_of;
 use crate::port::Pair;
 use crate::setting::Setting;
 
@@ -17,22 +16,11 @@ impl Demand {
         ensures after { waiting self.new ≡ one_less pair.input pair.output (waiting self.old) }
         ensures count { packets (size self.old) (waiting self.new) + (if result then 1 else 0) ≡ packets (size self.old) (waiting self.old) }
     {
-        if !self.has_pair(pair) {
+        let count = self.count(pair);
+        if count == 0 {
             return false;
         }
-        let cell = cell_of(pair);
-        if self.counts[cell] == 0 {
-            return false;
-        }
-        let left = self.counts[cell] - 1;
-        self.counts[cell] = left;
-        self.inputs[pair.input as usize] -= 1;
-        self.outputs[pair.output as usize] -= 1;
-        self.rows[pair.input as usize] = self.rows[pair.input as usize].set(pair.output, left > 0);
-        self.columns[pair.output as usize] = self.columns[pair.output as usize].set(
-            pair.input,
-            left > 0,
-        );
+        self.recount(pair, count - 1);
         true
     }
 
@@ -43,11 +31,9 @@ impl Demand {
         ensures { Served self.old setting.now result self.new }
     {
         let mut departed = 0;
-        for output in 0..self.ports.count() {
-            if let Some(input) = setting.input_of(output) {
-                if self.take(Pair { input, output }) {
-                    departed += 1;
-                }
+        for pair in setting.pairs() {
+            if self.take(pair) {
+                departed += 1;
             }
         }
         departed

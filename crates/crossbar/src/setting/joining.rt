@@ -21,10 +21,7 @@ impl Setting {
     pub fn input_of(&self, output: u8) -> Option<u8>
         ensures { result ≡ input_at self.now output }
     {
-        if output >= MOST_PORTS {
-            return None;
-        }
-        self.inputs[output as usize]
+        *self.inputs.get(output as usize)?
     }
 
     /// The output that `input` is joined to, if any; none for an input of 16 or more.
@@ -32,10 +29,7 @@ impl Setting {
         ensures value { result ≡ output_at self.now input }
         ensures joined { MatchOption result ((j : ℕ) → input_at self.now j ≢ Some input) (λ j. input_at self.now j ≡ Some input) }
     {
-        if input >= MOST_PORTS {
-            return None;
-        }
-        self.outputs[input as usize]
+        *self.outputs.get(input as usize)?
     }
 
     /// Whether the pair can be joined: both ports are below 16 and neither is joined yet.
@@ -49,6 +43,7 @@ impl Setting {
     }
 
     /// Joins the pair, and says whether that was possible; where it was not, nothing changes.
+    // A `bool`, as `HashSet::insert` gives: there is nothing to tell but what `can_join` tests.
     #[must_use]
     pub fn join(&mut self, pair: Pair) -> bool
         ensures possible { result ≡ joinable self.old pair }

@@ -1,13 +1,7 @@
 use Rattle.std.proofs.Common.{cond, ◌&&◌, eqb, ltb, sym, ap, ◌∙◌, arith}
 use Rattle.mask.specs.Bits.{bit}
-use Rattle.mask.proofs.Digits.{put_in, taken_out}
+use Rattle.mask.proofs.Digits.{taken_out}
 use Rattle.mask.proofs.Mask.set.Goals as goal
-
-pub returns-then-member : goal.returns-then-member
-returns-then-member c k =
-    c.with.ensures k
-    ∙ put_in (bit c.args.self.bits k) (eqb k c.args.port && ltb k 16)
-    ∙ ap (λ b. cond (eqb k c.args.port && ltb k 16) b (bit c.args.self.bits k)) (sym c.if-member.true)
 
 pub returns-else-member : goal.returns-else-member
 returns-else-member c k =

@@ -1,92 +1,39 @@
-use Rattle.std.proofs.Common.{◌≡◌, ℕ, ◌<◌, ◌≤◌, true, sym, ◌∙◌, subst, arith}
-use Rattle.crossbar.specs.Loads.{load, turned}
+use Rattle.std.proofs.Common.{sym, refl, ap, ◌∙◌, subst, arith}
+use Rattle.crossbar.specs.Clearing.{Lawful}
 use Rattle.crossbar.specs.Models.{size, waiting}
-use Rattle.crossbar.specs.declared.port.Port.TheVariants.{Input, Output}
-use Rattle.crossbar.proofs.Loads.{load_le}
-use Rattle.policy.specs.Graphs.{Keeps, Weighs, partners}
-use Rattle.policy.specs.Kernel.{graph_of}
-use Rattle.policy.specs.Paths.{Full, Grown, Inverse}
-use Rattle.policy.specs.Settled.{Covers}
-use Rattle.policy.proofs.Partnering.{partnered_inverse, partnered_le}
-use Rattle.policy.proofs.Settling.{full_inputs, full_outputs, settled_covers, settled_matched, turned_sides}
-use Rattle.policy.proofs.Turning.{inverse_back, inverse_keeps}
+use Rattle.crossbar.specs.declared.ports.Ports.{Ports}
+use Rattle.policy.specs.Mending.{pair_count}
+use Rattle.policy.proofs.Settling.{fits_other, serves_along, serves_side, settled}
 use Rattle.policy.proofs.settle.settle.Goals as goal
 
-pub fill-outputs-requires : goal.fill-outputs-requires
-fill-outputs-requires c =
+pub invariant_of-by_outputs : goal.invariant_of-by_outputs
+invariant_of-by_outputs c =
     let d = c.args.demand.now in
-    let n = size d in
-    let ins = graph_of c.inputs.result in
-    let outs = graph_of c.outputs.result in
-    let e = c.inputs.ensures.ports in
-    let e' = c.outputs.ensures.ports in
-    let weighs : Weighs n ins (waiting d) = record { links = λ i j _ _. c.inputs.ensures.masks i j; loads = λ i _. c.inputs.ensures.loads i } in
-    let weighs' : Weighs n outs (turned (waiting d)) = record { links = λ i j _ _. c.outputs.ensures.masks i j; loads = λ i _. c.outputs.ensures.loads i } in
-    let a = partners c.fill-inputs.new.from in
-    let t = partners c.fill-inputs.new.to in
-    let keeps : Keeps n ins a = subst (λ x. Keeps x ins a) e c.fill-inputs.ensures.grown.keeps in
-    let inv : Inverse n a t = subst (λ x. Inverse x a t) e c.fill-inputs.ensures.pairs in
+    let ins = c.inputs.ensures in
+    let outs = c.outputs.ensures in
     record {
-      small = omega (arith, e', d.ports.few);
-      keeps = subst (λ x. Keeps x outs t) (sym e') (inverse_keeps n a t inv ins outs (turned_sides n ins outs (waiting d) weighs weighs') keeps);
-      pairs = subst (λ x. Inverse x t a) (sym e') (inverse_back n a t inv);
+      fits =
+          fits_other (size d) (waiting d) c.largest_load-want.result c.fill-joined.new.self
+          (serves_along _ _ _ _ (serves_side d.ports _ _ _ ins.ports refl ins.masks ins.loads) _ c.fill-joined.ensures.alike)
+          c.outputs.result (ap (λ (p : Ports). p.count) outs.ports) (record { links = λ i j _ _. outs.masks i j; loads = λ i _. outs.loads i })
+          c.turned.result c.turned.ensures.inputs;
     }
 
 pub returns : goal.returns
 returns c =
     let d = c.args.demand.now in
-    let n = size d in
-    let w = c.largest_load-want.result in
-    let top = c.largest_load-want.ensures.value in
-    let ins = graph_of c.inputs.result in
-    let outs = graph_of c.outputs.result in
-    let first = c.fill-inputs.ensures in
-    let second = c.fill-outputs.ensures in
-    let e = c.inputs.ensures.ports in
-    let e' = c.outputs.ensures.ports in
-    let weighs : Weighs n ins (waiting d) = record { links = λ i j _ _. c.inputs.ensures.masks i j; loads = λ i _. c.inputs.ensures.loads i } in
-    let weighs' : Weighs n outs (turned (waiting d)) = record { links = λ i j _ _. c.outputs.ensures.masks i j; loads = λ i _. c.outputs.ensures.loads i } in
-    let a = partners c.fill-inputs.new.from in
-    let t = partners c.fill-inputs.new.to in
-    let b = partners c.fill-outputs.new.from in
-    let u = partners c.fill-outputs.new.to in
-    let busy : 0 < w = omega (arith, c.if-want-eq0.false) in
-    let cap : (j : ℕ) → j < n → load n (waiting d) (Output j) ≤ w = λ j l. omega (arith, load_le n (waiting d) (Output j) l, top) in
-    let cap' : (i : ℕ) → i < n → load n (turned (waiting d)) (Output i) ≤ w = λ i l. omega (arith, load_le n (waiting d) (Input i) l, top) in
-    let all : c.fill-inputs.result ≡ true =
-    subst (λ x. Weighs x ins (waiting d) → 0 < w → ((j : ℕ) → j < x → load x (waiting d) (Output j) ≤ w) → c.fill-inputs.result ≡ true) e (first.critical (waiting d)) weighs busy cap
-    in
-    let all' : c.fill-outputs.result ≡ true =
-    subst (λ x. Weighs x outs (turned (waiting d)) → 0 < w → ((j : ℕ) → j < x → load x (turned (waiting d)) (Output j) ≤ w) → c.fill-outputs.result ≡ true) e' (second.critical (turned (waiting d))) weighs' busy cap'
-    in
-    let full : Full n ins w a = subst (λ x. Full x ins w a) e (first.full all) in
-    let full' : Full n outs w b = subst (λ x. Full x outs w b) e' (second.full all') in
-    let inv : Inverse n a t = subst (λ x. Inverse x a t) e first.pairs in
-    let inv' : Inverse n b u = subst (λ x. Inverse x b u) e' second.pairs in
-    let grown : Grown n outs t w b = subst (λ x. Grown x outs t w b) e' second.grown in
-    let start = partners c.args.from.now in
-    let grown₁ : Grown n ins start w a = subst (λ x. Grown x ins start w a) e first.grown in
-    let still₁ : Full n ins w start → (c.fill-inputs.new.from ≡ c.args.from.now) × (c.fill-inputs.new.to ≡ c.args.to.now) =
-    subst (λ x. Full x ins w start → (c.fill-inputs.new.from ≡ c.args.from.now) × (c.fill-inputs.new.to ≡ c.args.to.now)) e first.still
-    in
-    let still₂ : Full n outs w t → (c.fill-outputs.new.from ≡ c.fill-inputs.new.to) × (c.fill-outputs.new.to ≡ c.fill-inputs.new.from) =
-    subst (λ x. Full x outs w t → (c.fill-outputs.new.from ≡ c.fill-inputs.new.to) × (c.fill-outputs.new.to ≡ c.fill-inputs.new.from)) e' second.still
+    let ins = c.inputs.ensures in
+    let outs = c.outputs.ensures in
+    let first = c.fill-joined.ensures in
+    let second = c.fill-joined-2.ensures in
+    let is = c.turned-2.ensures.inputs in
+    let (lawful, grown, still) =
+    settled (size d) (waiting d) c.largest_load-want.result _ _ _ _ _ _ first.alike second.alike c.largest_load-want.ensures.value (omega (arith, c.if-want-eq0.false))
+    (serves_side d.ports _ _ _ ins.ports refl ins.masks ins.loads) (serves_side d.ports _ _ _ outs.ports refl outs.masks outs.loads)
+    c.turned.ensures.inputs c.turned.ensures.outputs first.grown second.grown first.full second.full first.critical second.critical first.still second.still
     in
     record {
-      matched = settled_matched n ins outs (waiting d) w weighs weighs' top a t b u full inv grown full' inv';
-      covers = settled_covers n ins outs (waiting d) w weighs weighs' top a t b u full inv grown full' inv';
-      pairs = inverse_back n b u inv';
-      grown =
-          omega (
-            arith,
-            partnered_le n start a grown₁.outputs,
-            partnered_inverse n a t inv,
-            partnered_le n t b grown.outputs,
-            partnered_inverse n b u inv',
-          );
-      still =
-          λ covers.
-          let (from-same, to_same) = still₁ (full_inputs n (waiting d) start covers w top busy ins weighs) in
-          let covers' : Covers n (waiting d) a = subst (λ xs. Covers n (waiting d) (partners xs)) (sym from-same) covers in
-          (still₂ (full_outputs n (waiting d) a covers' w top busy outs weighs' t inv)).1 ∙ from-same;
+      lawful = subst (Lawful (size d) (waiting d)) (sym is) lawful;
+      grown = omega (arith, ap pair_count is, grown);
+      still = λ law. is ∙ still law;
     }

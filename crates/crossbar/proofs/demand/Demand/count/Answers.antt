@@ -1,4 +1,4 @@
-use Rattle.std.proofs.Common.{get_or, sym, ap, ◌∙◌}
+use Rattle.std.proofs.Common.{sym}
 use Rattle.crossbar.proofs.Places.{grid_inside}
 use Rattle.crossbar.proofs.Room.{inside_from_pair, outside_from_pair}
 use Rattle.crossbar.proofs.demand.Demand.count.Goals as goal
@@ -11,4 +11,4 @@ returns c =
     let d = c.args.self.now in
     let p = c.args.pair in
     let inside = inside_from_pair d p (sym c.if-not-has_pair.ensures) in
-    ap (λ k. get_or d.counts k 0) c.cell_of.ensures ∙ sym (grid_inside d.ports.count d.counts p.input p.output inside.0 inside.1)
+    sym (grid_inside d.ports.count d.counts p.input p.output inside.0 inside.1)

@@ -1,9 +1,8 @@
 use Rattle.std.proofs.Common.{◌≡◌, ◌+◌, ◌-◌, ◌≤◌, [], ◌∷◌, ◌++◌, Some, None, sym, ap, ◌∙◌, arith, rules}
-use Rattle.std.proofs.lemmas.List.{get_or_past}
 use Rattle.crossbar.specs.Joining.{pairs_below}
 use Rattle.crossbar.specs.Models.{given_by, input_at}
 use Rattle.crossbar.specs.declared.setting.pairs.Pairs.{Pairs}
-use Rattle.crossbar.proofs.Joins.{pairs_none, pairs_past, pairs_some}
+use Rattle.crossbar.proofs.Joins.{joined_past, pairs_none, pairs_past, pairs_some}
 use Rattle.crossbar.proofs.setting.pairs.PairsIterator.next.Goals as goal
 use Rattle.std.proofs.iter.Next.{firm}
 
@@ -40,7 +39,7 @@ returns c =
     let past : 16 ≤ k = omega arith in
     let far : k ≡ 16 + (k - 16) = omega arith in
     let all : given_by p ≡ pairs_below s 16 =
-    sym c.loop-output.invariant.1 ∙ ap (pairs_below s) far ∙ pairs_past s 16 (λ j h. get_or_past p.setting.now.inputs j None (omega (arith, p.setting.now.sized.0))) (k - 16)
+    sym c.loop-output.invariant.1 ∙ ap (pairs_below s) far ∙ pairs_past s 16 (joined_past p.setting.now) (k - 16)
     in
     record {
       steps = (
