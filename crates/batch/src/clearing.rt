@@ -30,6 +30,7 @@ impl Clearing {
     }
 
     /// The packets still to clear.
+    // Beside the same of `Gathering`: a trait for the two would say more than both.
     pub fn demand(&self) -> &Demand
         ensures { result.now ≡ self.now.demand }
     {

@@ -5,6 +5,7 @@ ghost use Rattle.std.specs.Prelude.{◌≡◌, ◌≤◌, MatchOption};
 pub const MOST_SLOTS: u16 = 1024;
 
 /// The number L of slots of a period: 1 to 1,024.
+// Not one type with the ports of a crossbar, whose number is a `u8`: `Ports` says why.
 #[derive(Clone, Copy)]
 pub struct Slots {
     count: u16,

@@ -10,6 +10,7 @@ pub mod pairs;
 ///
 /// It keeps the input of each output and the output of each input; that these
 /// mirror each other is the invariant by which no port is joined twice.
+// Two arrays and no map: either side has sixteen places, and a setting asks for no memory.
 #[derive(Clone, Copy)]
 pub struct Setting {
     inputs: [Option<u8>; 16],

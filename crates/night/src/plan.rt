@@ -6,6 +6,7 @@ use readout::Readout;
 use std::alloc::{AllocError, Global};
 
 /// The line, the ports with their names, and the readouts; a number that the input does not give is 0.
+// No `Option` for a number: 0 is out of range, and refused by the same reply as a missing number would be.
 #[derive(Drop)]
 pub(crate) struct Plan<'a> {
     pub line: Line,

@@ -16,6 +16,7 @@ impl Mending<'_> {
     {
         let mut output = path.output;
         let mut place = path.place;
+        // Goes from a step to its parent, so that nothing is counted.
         while place > 0 {
             let step = path.trail.steps[place - 1];
             self.setting.rejoin(Pair {

@@ -29,7 +29,7 @@ pub fn place_of(reply: Reply) -> u32
     ensures { result ≡ place_of (answer reply) }
 {
     match reply {
-        Ok(place) => u32::from(place),
+        Ok(count) => u32::from(count),
         Err(refusal) => u32::from(refusal.place),
     }
 }

@@ -14,6 +14,7 @@ impl Clearing {
     ///
     /// Refused where no slot is left; the batch, the policy and the place then stay as they were. However the policies
     /// change from slot to slot, the packets of a batch have left after exactly as many slots as its largest load.
+    // By the rules a slot writes its setting to a place that the caller gives, and every call answers a reply.
     pub fn slot<P: Policy>(&mut self, policy: &mut P, place: &mut Setting) -> Reply
         ensures slot { Slotted P.Policy.given self.old policy.old place.old result self.new policy.new place.new }
         ensures run { RunsOn self.old place.new self.new }
