@@ -19,12 +19,12 @@ impl Slots {
     pub fn new(count: usize) -> Option<Slots>
         ensures { MatchOption result ((1 ≤ count) × (count ≤ 1024) → ⊥) (λ slots. slots.count ≡ count) }
     {
-        if count < 1 || count > MOST_SLOTS as usize {
-            return None;
+        let count = u16::try_from(count).ok()?;
+        if (1..=MOST_SLOTS).contains(&count) {
+            Some(Slots { count })
+        } else {
+            None
         }
-        Some(Slots {
-            count: count as u16,
-        })
     }
 
     /// The number itself.

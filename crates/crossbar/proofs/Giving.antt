@@ -4,7 +4,10 @@ use mathlib.Core.Path.{fun_ext}
 use Rattle.std.proofs.lemmas.Bool.{cases_eq, cases_lt, eq-eqb, ne_eqb}
 use Rattle.crossbar.specs.Joining.{Joins, pairs_below, with_pair}
 use Rattle.crossbar.specs.declared.port.Pair.{Pair}
-use Rattle.crossbar.proofs.Joins.{pairs_none, pairs_some}
+use Rattle.crossbar.specs.Models.{given_by, input_at}
+use Rattle.crossbar.specs.declared.setting.Setting.{Setting}
+use Rattle.crossbar.specs.declared.setting.pairs.Pairs.{Pairs}
+use Rattle.crossbar.proofs.Joins.{joined_past, pairs_none, pairs_some}
 use Rattle.crossbar.proofs.Serving.{below, below_no, below_yes}
 
 -- what is joined below k is joined
@@ -96,3 +99,22 @@ given_more s p q x e =
 -- where every pair has been given
 pub given_all : (s : Joins) → ((j : ℕ) → 16 ≤ j → s j ≡ None) → (p : ℕ) → pairs_below s p ≡ pairs_below s 16 → below p s ≡ s
 given_all s past p e = same_given s p 16 e ∙ below_all 16 s past
+
+-- ---- an iterator over the pairs of the setting s
+
+module _ (s : Setting) where
+  pub given_first : (it from : Pairs) → it ≡ from → from.setting.now ≡ s → given_by from ≡ [] → (it.setting.now ≡ s) × (below it.output (input_at s) ≡ (λ j. None))
+  given_first it from e same none =
+      let is : it.setting.now ≡ s = ap (λ (p : Pairs). p.setting.now) e ∙ same in (
+        is,
+        given_none (input_at s) it.output (ap (λ x. pairs_below (input_at x) it.output) (sym is) ∙ ap given_by e ∙ none),
+      )
+
+  pub given_next : (it next : Pairs) (x : Pair) → it.setting.now ≡ s → next.setting.now ≡ it.setting.now → given_by next ≡ given_by it ++ x ∷ [] → pairs_below (input_at s) next.output ≡ pairs_below (input_at s) it.output ++ x ∷ []
+  given_next it next x here same more =
+      ap (λ y. pairs_below (input_at y) next.output) (sym (same ∙ here)) ∙ more ∙ ap (λ y. pairs_below (input_at y) it.output ++ x ∷ []) here
+
+  pub given_last : (it : Pairs) → it.setting.now ≡ s → given_by it ≡ pairs_below (input_at it.setting.now) 16 → below it.output (input_at s) ≡ input_at s
+  given_last it here all =
+      given_all (input_at s) (joined_past s) it.output
+      (ap (λ y. pairs_below (input_at y) it.output) (sym here) ∙ all ∙ ap (λ y. pairs_below (input_at y) 16) here)

@@ -5,8 +5,13 @@ use Rattle.std.proofs.lemmas.Bool.{and_right, cases_eq, cases_lt, eq-eqb, le-ltb
 use Rattle.std.specs.Option.{option_map, option_to_list}
 use Rattle.crossbar.specs.Clearing.{served}
 use Rattle.crossbar.specs.Joining.{Joins, is_input, pairs_below}
-use Rattle.crossbar.specs.Loads.{Counts, one_less, single}
+use Rattle.crossbar.specs.Loads.{Counts, one_less, packets, single}
+use Rattle.crossbar.specs.Models.{given_by, size, waiting}
+use Rattle.crossbar.specs.declared.demand.Demand.{Demand}
 use Rattle.crossbar.specs.declared.port.Pair.{Pair}
+use Rattle.crossbar.specs.declared.ports.Ports.{Ports}
+use Rattle.crossbar.specs.declared.setting.Setting.{Setting}
+use Rattle.crossbar.specs.declared.setting.pairs.Pairs.{Pairs}
 use Rattle.crossbar.proofs.Joins.{pairs_none, pairs_past, pairs_some}
 
 -- what a setting joins to the outputs below k
@@ -42,12 +47,30 @@ and_true : (x y : Bool) → y ≡ true → (x && y) ≡ x
 and_true true y e = e
 and_true false y e = refl
 
--- one packet of the next pair is taken
-pub next_taken : (ps qs : List Pair) (p : Pair) (d before after : Counts) → before ≡ taken ps d → after ≡ one_less p.input p.output before → qs ≡ ps ++ p ∷ [] → (after ≡ taken qs d) × (length qs ≡ length ps + 1)
-next_taken ps qs p d before after was is more = (
-  is ∙ ap (one_less p.input p.output) was ∙ sym (ap (λ rs. taken rs d) more ∙ taken_more ps p d),
-  ap length more ∙ length-append ps (p ∷ []),
-)
+-- how far serving a demand by the setting s has come, from `before` to `now`, by the pairs that `it` has given
+pub record Underway (before now : Demand) (s : Setting) (it : Pairs) (departed : ℕ) : Type 0 where
+  pub setting : it.setting.now ≡ s
+  pub ports : now.ports ≡ before.ports
+  pub counts : waiting now ≡ taken (given_by it) (waiting before)
+  pub departures : packets (size before) (waiting now) + departed ≡ packets (size before) (waiting before)
+  pub few : departed ≤ length (given_by it)
+
+-- one packet of the next pair is taken, if one waits: m is 1 or 0
+pub underway_next : (before now after : Demand) (s : Setting) (it next : Pairs) (p : Pair) (m departed total : ℕ) → Underway before now s it departed → next.setting.now ≡ it.setting.now → given_by next ≡ given_by it ++ p ∷ [] → after.ports ≡ now.ports → waiting after ≡ one_less p.input p.output (waiting now) → packets (size now) (waiting after) + m ≡ packets (size now) (waiting now) → m ≤ 1 → total ≡ departed + m → Underway before after s next total
+underway_next before now after s it next p m departed total u setting given ports is count le sum =
+    record {
+      setting = setting ∙ u.setting;
+      ports = ports ∙ u.ports;
+      counts =
+          is
+          ∙ ap (one_less p.input p.output) u.counts
+          ∙ sym (ap (λ ps. taken ps (waiting before)) given ∙ taken_more (given_by it) p (waiting before));
+      departures = omega (arith, u.departures, sum, same);
+      few = omega (arith, u.few, sum, le, ap length given, length-append (given_by it) (p ∷ []));
+    }
+  where
+    same : packets (size before) (waiting after) + m ≡ packets (size before) (waiting now)
+    same = subst (λ (q : Ports). packets q.count (waiting after) + m ≡ packets q.count (waiting now)) u.ports count
 
 -- the outputs below k + 1 are those below k and the output k
 module _ (s : Joins) (d : Counts) (k : ℕ) where

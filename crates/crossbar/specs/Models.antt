@@ -1,6 +1,7 @@
 -- What values of the crate's types mean.
 use Rattle.std.specs.Prelude.{◌≡◌, ℕ, ◌+◌, Bool, not, ◌&&◌, List, [], ◌∷◌, ◌++◌, is_some, None, Option, MatchOption, nat_le, nat_lt, slice_index_or}
 use Rattle.crossbar.specs.Arrays.{grid}
+use Rattle.crossbar.specs.Clearing.{Lawful}
 use Rattle.crossbar.specs.Joining.{Joins, pairs_below}
 use Rattle.crossbar.specs.Loads.{Counts, load, largest_load}
 use Rattle.crossbar.specs.Sides.{at_port}
@@ -44,6 +45,10 @@ input_at s j = slice_index_or s.inputs j None
 
 abbrev pub output_at : Setting → ℕ → Option ℕ
 output_at s i = slice_index_or s.outputs i None
+
+-- the setting is lawful for the demand
+abbrev pub IsLawful : Demand → Setting → Type 0
+IsLawful d s = Lawful (size d) (waiting d) (input_at s)
 
 -- a pair can be joined: both ports are below 16 and free
 abbrev pub joinable : Setting → Pair → Bool

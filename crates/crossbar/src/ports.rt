@@ -19,10 +19,12 @@ impl Ports {
     pub fn new(count: usize) -> Option<Ports>
         ensures { MatchOption result ((1 ≤ count) × (count ≤ 16) → ⊥) (λ ports. ports.count ≡ count) }
     {
-        if count < 1 || count > MOST_PORTS as usize {
-            return None;
+        let count = u8::try_from(count).ok()?;
+        if (1..=MOST_PORTS).contains(&count) {
+            Some(Ports { count })
+        } else {
+            None
         }
-        Some(Ports { count: count as u8 })
     }
 
     /// The number itself.

@@ -49,18 +49,27 @@ impl Side<'_> {
     pub fn load(self, port: u8) -> u16
         ensures { result ≡ load_at self.entry port }
     {
-        let ports = self.at;
-        ports.get(port as usize).map_or(0, |at| at.load)
+        self.at_port(port).load
     }
 
     /// The ports of the other side that a port has packets with; none for a port of 16 or more.
     pub fn links(self, port: u8) -> Mask
         ensures { (k : ℕ) → holds result k ≡ holds (links_at self.entry port) k }
     {
+        self.at_port(port).links
+    }
+
+    /// What waits at a port; nothing at a port of 16 or more.
+    #[tactic(auto, using(mask::proofs::Digits::zero_bit))]
+    fn at_port(self, port: u8) -> PortLoad
+        ensures load { result.load ≡ load_at self.entry port }
+        ensures links { (k : ℕ) → holds result.links k ≡ holds (links_at self.entry port) k }
+    {
         let ports = self.at;
         ports
             .get(port as usize)
-            .map_or(Mask::empty(), |at| at.links)
+            .copied()
+            .unwrap_or(PortLoad::idle())
     }
 
     /// The largest of the loads.

@@ -10,24 +10,21 @@ fn pair(input: u8, output: u8) -> Pair {
     Pair { input, output }
 }
 
+/// A demand of so many inputs and outputs, in which nothing waits.
+fn empty(count: usize) -> Result<Demand, Fail> {
+    let Some(ports) = Ports::new(count) else {
+        return Err(Fail::new("no such number of ports"));
+    };
+    Ok(Demand::empty(ports))
+}
+
 /// Two packets wait at input 0, one for each output, and one at input 1 for output 1.
 fn three_packets(rt: &impl Abort) -> Result<Demand, Fail> {
-    let Some(ports) = Ports::new(2) else {
-        return Err(Fail::new("two ports"));
-    };
-    let mut demand = Demand::empty(ports);
+    let mut demand = empty(2)?;
     assert!(rt; demand.add(pair(0, 0)));
     assert!(rt; demand.add(pair(0, 1)));
     assert!(rt; demand.add(pair(1, 1)));
     Ok(demand)
-}
-
-/// A demand of one port on each side, in which nothing waits.
-fn one_pair() -> Result<Demand, Fail> {
-    let Some(ports) = Ports::new(1) else {
-        return Err(Fail::new("one port"));
-    };
-    Ok(Demand::empty(ports))
 }
 
 #[test]
@@ -89,10 +86,7 @@ fn pairs_come_in_order_of_output(rt: HostRuntime) {
 
 #[test]
 fn a_pair_has_room_for_1024_packets(rt: HostRuntime) -> Result<(), Fail> {
-    let Some(ports) = Ports::new(1) else {
-        return Err(Fail::new("one port"));
-    };
-    let mut demand = Demand::empty(ports);
+    let mut demand = empty(1)?;
     for _ in 0..1024 {
         assert!(rt; demand.add(pair(0, 0)));
     }
@@ -103,7 +97,7 @@ fn a_pair_has_room_for_1024_packets(rt: HostRuntime) -> Result<(), Fail> {
 
 #[test]
 fn many_packets_go_in_at_once_or_not_at_all(rt: HostRuntime) -> Result<(), Fail> {
-    let mut demand = one_pair()?;
+    let mut demand = empty(1)?;
     assert!(rt; !demand.add_many(pair(0, 0), MOST_LOAD + 1));
     assert!(rt; !demand.add_many(pair(0, 1), 0));
     assert_eq!(rt; demand.largest_load(), 0);

@@ -2,7 +2,8 @@
 use crossbar::port::Port;
 
 /// The name of the camera at each input and of the machine at each output, up to 16 of either; empty where it has none.
-// No `Option` for a name: it would be taken as empty in the one place where names are printed.
+// No `Option` for a name: it would be taken as empty in the one place where names are printed. Two arrays and no map from
+// ports to names: a port would need an order or a hash, and a name a way in that can fail.
 #[derive(Clone, Copy, Default)]
 pub(crate) struct Names<'a> {
     cameras: [&'a str; 16],

@@ -25,6 +25,7 @@ pub(crate) struct Numbered<T> {
 
 impl<'a> Plan<'a> {
     /// Reads the whole input; lines that cannot be read are noted and passed over.
+    // No `TryFrom`: it asks for memory.
     pub(crate) fn read(heap: Global, text: &'a str) -> Result<Plan<'a>, AllocError> {
         let mut plan = Plan {
             line: Line::default(),

@@ -1,14 +1,13 @@
 -- Joining one input after another.
 use Rattle.std.proofs.Common.{◌≡◌, ℕ, ◌+◌, ◌<◌, ◌≤◌, Bool, true, false, not, ◌&&◌, is_some, Some, None, Option, refl, ap, ◌∙◌, below_more}
 use Rattle.std.proofs.lemmas.Bool.{both_ways, le-leb}
-use Rattle.mask.specs.Bits.{holds}
 use Rattle.crossbar.specs.Loads.{Counts, load}
 use Rattle.crossbar.specs.Models.{input_at, load_at, output_at}
 use Rattle.crossbar.specs.declared.port.Port.TheVariants.{Output}
 use Rattle.mask.specs.declared.Mask.{Mask}
 use Rattle.policy.specs.Graphs.{Graph, graph_of, InJoined, Keeps, Partners, Stuck, Weighs}
 use Rattle.policy.specs.Kernel.{Alike, Ends, is_open, IsFull, IsStuck, joined_by, JoinedOne, ports_of}
-use Rattle.policy.specs.Paths.{Full, Grown, Held, Mended}
+use Rattle.policy.specs.Paths.{Full, Grown, Mended}
 use Rattle.policy.specs.declared.mending.Mending.{Mending}
 use Rattle.policy.proofs.Alike.{back}
 use Rattle.policy.proofs.Hall.{best_possible, never_stuck}
@@ -113,10 +112,3 @@ module _ (m x : Mending) (ends : Mask) (i : ℕ) (h : Partway m x ends i) where
 
     pub partway_critical : (c : Counts) → Weighs (ports_of m) (graph_of m.side) c → 0 < m.want → ((j : ℕ) → j < ports_of m → load (ports_of m) c (Output j) ≤ m.want) → ⊥
     partway_critical c weighs pos cap = filled_critical _ _ _ _ _ _ h.filled i (stuck.0, stuck') c weighs pos cap
-
--- ---- the outputs that end a path
-
--- m are the outputs of which no input below i that is joined to one has a load of w or more
-pub record Passed (n : ℕ) (d : Graph) (s : Partners) (w : ℕ) (m : Mask) (i : ℕ) : Type 0 where
-  pub held : (j : ℕ) → j < n → holds m j ≡ false → Held n d s w j
-  pub later : (j : ℕ) → j < n → holds m j ≡ true → Held n d s w j → i ≤ s j

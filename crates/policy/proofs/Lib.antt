@@ -15,3 +15,4 @@ pub mod Moves
 pub mod Flipping
 pub mod Peeling
 pub mod Dropping
+pub mod Ending

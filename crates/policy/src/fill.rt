@@ -43,16 +43,10 @@ impl Mending<'_> {
     }
 
     /// The first input that is open, if any.
-    // No `find` over the range: that its closure is asked in order was not proved.
     fn first_open(&self) -> Option<u8>
         ensures { FirstOpen self.now result }
     {
-        for input in 0..self.side.ports.count() {
-            if self.is_open(input) {
-                return Some(input);
-            }
-        }
-        None
+        (0..self.side.ports.count()).find(|&input| self.is_open(input))
     }
 
     /// The outputs that end a path: those that are free, or joined to an input of a load below `want`.
@@ -60,11 +54,9 @@ impl Mending<'_> {
         ensures { Ends self.now result }
     {
         let mut ends = Mask::below(self.side.ports.count());
-        for input in 0..self.side.ports.count() {
-            if self.side.load(input) >= self.want {
-                if let Some(output) = self.setting.output_of(input) {
-                    ends = ends.without(output);
-                }
+        for pair in self.setting.pairs() {
+            if self.side.load(pair.input) >= self.want {
+                ends = ends.without(pair.output);
             }
         }
         ends

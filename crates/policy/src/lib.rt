@@ -4,8 +4,7 @@
 //! and `shift` flips, in a setting that is being mended.
 #![tactic(auto)]
 
-ghost use Rattle.crossbar.specs.Clearing.{Lawful};
-ghost use Rattle.crossbar.specs.Models.{input_at, size, waiting};
+ghost use Rattle.crossbar.specs.Models.{IsLawful};
 ghost use Rattle.crossbar.specs.declared.setting.Setting.{Setting};
 ghost use Rattle.std.specs.Prelude.{◌≡◌};
 
@@ -35,6 +34,6 @@ pub trait Policy {
     /// A lawful setting for the demand: each joined pair has a packet, and every critical port is joined. Nothing is
     /// refused.
     fn choose(&mut self, demand: &Demand) -> Setting
-        ensures lawful { Lawful (size demand.now) (waiting demand.now) (input_at result) }
+        ensures lawful { IsLawful demand.now result }
         ensures last { given self.new ≡ result };
 }

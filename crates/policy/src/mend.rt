@@ -1,6 +1,5 @@
 //! Mending a setting for a demand.
-ghost use Rattle.crossbar.specs.Clearing.{Lawful};
-ghost use Rattle.crossbar.specs.Models.{input_at, size, waiting};
+ghost use Rattle.crossbar.specs.Models.{IsLawful, input_at, size, waiting};
 ghost use Rattle.policy.specs.Mending.{Mends};
 
 use crate::packets::with_packets;
@@ -20,7 +19,7 @@ pub fn mend(demand: &Demand, start: &Setting) -> Setting
 
 /// A setting that is lawful for the demand, found along paths from the setting that joins nothing.
 pub fn lawful_setting(demand: &Demand) -> Setting
-    ensures { Lawful (size demand.now) (waiting demand.now) (input_at result) }
+    ensures { IsLawful demand.now result }
 {
     settle(demand, &Setting::empty())
 }

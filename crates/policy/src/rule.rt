@@ -1,7 +1,6 @@
 //! Policies that go by a rule: what they have in common.
-ghost use Rattle.crossbar.specs.Clearing.{Lawful};
 ghost use Rattle.crossbar.specs.Joining.{unjoined};
-ghost use Rattle.crossbar.specs.Models.{input_at, size, waiting};
+ghost use Rattle.crossbar.specs.Models.{IsLawful, input_at};
 ghost use Rattle.std.specs.Prelude.{◌≡◌};
 
 use crate::Policy;
@@ -13,7 +12,7 @@ use std::marker::PhantomData;
 pub trait Rule {
     /// A lawful setting for the demand. Nothing is refused.
     fn setting_for(demand: &Demand) -> Setting
-        ensures { Lawful (size demand.now) (waiting demand.now) (input_at result) };
+        ensures { IsLawful demand.now result };
 }
 
 /// The policy that chooses by the rule `R`, whatever it gave before.

@@ -48,7 +48,7 @@ impl Mending<'_> {
                 trail.steps.push(Step {
                     input,
                     output,
-                    parent: place,
+                    parent: place as u8,
                 });
             }
         }

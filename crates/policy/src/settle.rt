@@ -1,7 +1,6 @@
 //! Joining every critical port of a demand.
 ghost use Rattle.std.specs.Prelude.{◌≡◌, ◌≤◌};
-ghost use Rattle.crossbar.specs.Clearing.{Lawful};
-ghost use Rattle.crossbar.specs.Models.{input_at, size, waiting};
+ghost use Rattle.crossbar.specs.Models.{IsLawful, input_at, size, waiting};
 ghost use Rattle.policy.specs.Mending.{pair_count};
 ghost use Rattle.policy.specs.Settled.{Matched};
 
@@ -14,9 +13,9 @@ use crossbar::setting::Setting;
 /// No fewer pairs are joined than before, and nothing changes where every critical port was joined.
 pub(crate) fn settle(demand: &Demand, start: &Setting) -> Setting
     requires { Matched (size demand.now) (waiting demand.now) (input_at start.now) }
-    ensures lawful { Lawful (size demand.now) (waiting demand.now) (input_at result) }
+    ensures lawful { IsLawful demand.now result }
     ensures grown { pair_count (input_at start.now) ≤ pair_count (input_at result) }
-    ensures still { Lawful (size demand.now) (waiting demand.now) (input_at start.now) → input_at result ≡ input_at start.now }
+    ensures still { IsLawful demand.now start.now → input_at result ≡ input_at start.now }
 {
     let want = demand.largest_load();
     if want == 0 {

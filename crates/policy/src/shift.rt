@@ -24,7 +24,7 @@ impl Mending<'_> {
                 output,
             });
             output = step.output;
-            place = step.parent;
+            place = step.parent as usize;
         }
         self.setting.rejoin(Pair {
             input: path.trail.start,

@@ -53,34 +53,29 @@ fn scattered(rt: &impl Abort, state: &mut u32) -> Result<Demand, Fail> {
 
 /// The load of a port, added up from the counts.
 fn load(demand: &Demand, port: Port) -> u16 {
-    let mut load: u16 = 0;
-    for other in 0..16 {
-        let waiting = match port {
-            Port::Input(input) => pair(input, other),
-            Port::Output(output) => pair(other, output),
-        };
-        load = load.wrapping_add(demand.count(waiting));
-    }
-    load
+    (0..16)
+        .map(|other| match port {
+            Port::Input(input) => demand.count(pair(input, other)),
+            Port::Output(output) => demand.count(pair(other, output)),
+        })
+        .fold(0, u16::wrapping_add)
 }
 
 fn largest(demand: &Demand) -> u16 {
-    let mut largest: u16 = 0;
-    for port in 0..16 {
-        largest = largest
-            .max(load(demand, Port::Input(port)))
-            .max(load(demand, Port::Output(port)));
-    }
-    largest
+    let inputs = (0..16).map(Port::Input);
+    let outputs = (0..16).map(Port::Output);
+    inputs
+        .chain(outputs)
+        .map(|port| load(demand, port))
+        .max()
+        .unwrap_or(0)
 }
 
 /// Checks by the counts alone that each joined pair has a packet, and that every critical port is joined.
 fn check_lawful(rt: &impl Abort, demand: &Demand, setting: &Setting) {
     let largest = largest(demand);
-    for output in 0..16 {
-        if let Some(input) = setting.input_of(output) {
-            assert!(rt; demand.count(pair(input, output)) > 0);
-        }
+    for pair in setting.pairs() {
+        assert!(rt; demand.count(pair) > 0);
     }
     for port in 0..16 {
         if largest > 0 && load(demand, Port::Input(port)) == largest {
@@ -93,9 +88,7 @@ fn check_lawful(rt: &impl Abort, demand: &Demand, setting: &Setting) {
 }
 
 fn check_joins_nothing(rt: &impl Abort, setting: &Setting) {
-    for output in 0..16 {
-        assert!(rt; setting.input_of(output).is_none());
-    }
+    assert!(rt; setting.pairs().next().is_none());
 }
 
 /// Serves a demand by lawful settings of a policy, and checks that it is clear after as many as its largest load, and not

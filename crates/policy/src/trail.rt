@@ -23,11 +23,12 @@ pub struct Trail {
 
 /// An output that a search has reached by a packet of the input at the place `parent`, with the input that it is joined
 /// to.
+// The parent is a place of the trail, and no box: a search asks for no memory.
 #[derive(Clone, Copy, Default)]
 pub struct Step {
     pub input: u8,
     pub output: u8,
-    pub parent: usize,
+    pub parent: u8,
 }
 
 /// A path of a trail, which ends at an output for which the input at `place` has a packet.

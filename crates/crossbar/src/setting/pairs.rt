@@ -36,7 +36,7 @@ impl Iterator for Pairs<'_> {
     ghost remaining = { λ p. at_most (16 - p.output) };
 
     fn next(&mut self) -> Option<Pair> {
-        // The iterator's own loop: it goes on at the output where the last call stopped.
+        // `find_map` would do, and then have to take the output out of the pair again to go on after it.
         for output in self.output..MOST_PORTS {
             if let Some(input) = self.setting.input_of(output) {
                 self.output = output + 1;

@@ -1,15 +1,13 @@
 use Rattle.std.proofs.Common.{◌≡◌, ◌+◌, sym, refl, ◌∙◌, subst, arith}
-use Rattle.std.proofs.lemmas.Bool.{and_parts}
 use Rattle.arrayvec.specs.ArrayVec.{array_vec_len}
 use Rattle.crossbar.specs.Models.{input_at}
-use Rattle.mask.specs.Bits.{holds}
 use Rattle.policy.specs.Graphs.{graph_of}
 use Rattle.policy.specs.Kernel.{ins, joined_by, outs, parents, ports_of}
 use Rattle.policy.specs.Searching.{Row}
 use Rattle.policy.specs.declared.trail.Step.{Step}
 use Rattle.policy.specs.declared.trail.Trail.{Trail}
 use Rattle.policy.proofs.Reach.{course_space, Pushes, row_more}
-use Rattle.policy.proofs.Removing.{cleared, others_stay}
+use Rattle.policy.proofs.Removing.{cleared, in_second, others_stay}
 use Rattle.policy.proofs.Trails.{pushes_ins, pushes_outs, pushes_parents}
 use Rattle.policy.proofs.Turning.{partners_some}
 use Rattle.policy.proofs.mending.Mending.spread.Goals as goal
@@ -17,14 +15,14 @@ use Rattle.policy.proofs.mending.Mending.spread.Goals as goal
 pub push-requires : goal.push-requires
 push-requires c =
     let r = c.loop-output.invariant.row in
-    let both = and_parts (holds c.args.row c.in-Some.output) (holds c.loop-output.trail.unseen c.in-Some.output) (sym (c.meet.ensures c.in-Some.output) ∙ c.in-Some.ensures.here) in
-    (omega arith, omega (arith, course_space _ _ _ _ _ _ _ _ _ _ r.course c.in-Some.output both.1, c.args.self.now.side.ports.few))
+    let here = in_second c.args.row c.loop-output.trail.unseen c.meet.result c.in-Some.output c.meet.ensures c.in-Some.ensures.here in
+    (omega arith, omega (arith, course_space _ _ _ _ _ _ _ _ _ _ r.course c.in-Some.output here, c.args.self.now.side.ports.few))
 
 pub loop-output-smaller-in-Some-input_of : goal.loop-output-smaller-in-Some-input_of
 loop-output-smaller-in-Some-input_of c =
     let r = c.loop-output.invariant.row in
-    let both = and_parts (holds c.args.row c.in-Some.output) (holds c.loop-output.trail.unseen c.in-Some.output) (sym (c.meet.ensures c.in-Some.output) ∙ c.in-Some.ensures.here) in
-    omega (arith, course_space _ _ _ _ _ _ _ _ _ _ r.course c.in-Some.output both.1, c.args.self.now.side.ports.few, c.push.ensures.len)
+    let here = in_second c.args.row c.loop-output.trail.unseen c.meet.result c.in-Some.output c.meet.ensures c.in-Some.ensures.here in
+    omega (arith, course_space _ _ _ _ _ _ _ _ _ _ r.course c.in-Some.output here, c.args.self.now.side.ports.few, c.push.ensures.len)
 
 pub loop-output-preserved-in-Some-input_of : goal.loop-output-preserved-in-Some-input_of
 loop-output-preserved-in-Some-input_of c =
@@ -49,3 +47,9 @@ loop-output-preserved-in-Some-input_of c =
           (others_stay t.unseen c.without-trail.result j c.without-trail.ensures)
           (ins u) (outs u) (parents u) pi (pushes_outs t u step refl c.push.ensures.items) (pushes_parents t u step refl c.push.ensures.items));
     }
+
+pub overflow_cast-place : goal.overflow_cast-place
+overflow_cast-place c =
+    let r = c.loop-output.invariant.row in
+    let here = in_second c.args.row c.loop-output.trail.unseen c.meet.result c.in-Some.output c.meet.ensures c.in-Some.ensures.here in
+    omega (arith, r.low, course_space _ _ _ _ _ _ _ _ _ _ r.course c.in-Some.output here, c.args.self.now.side.ports.few)
