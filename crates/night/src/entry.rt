@@ -48,6 +48,7 @@ impl<'a> TryFrom<&'a str> for Entry<'a> {
             return Ok(Entry::Blank);
         };
         let entry = words.entry(first)?;
+        // No method of the library makes an error of a word that is there.
         match words.0.next() {
             Some(_) => Err(Fault::TooLong),
             None => Ok(entry),
