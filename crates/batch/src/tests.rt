@@ -5,6 +5,7 @@ use reply::code;
 use std::process::Abort;
 use std::test::Fail;
 
+// The tests of three crates have this, and share no code.
 fn pair(input: u8, output: u8) -> Pair {
     Pair { input, output }
 }

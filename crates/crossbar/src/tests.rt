@@ -6,6 +6,7 @@ use crate::setting::Setting;
 use std::process::Abort;
 use std::test::Fail;
 
+// The tests of three crates have this, and share no code.
 fn pair(input: u8, output: u8) -> Pair {
     Pair { input, output }
 }

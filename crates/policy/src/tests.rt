@@ -19,6 +19,7 @@ fn empty(count: usize) -> Result<Demand, Fail> {
     Ok(Demand::empty(ports))
 }
 
+// The tests of three crates have this, and share no code.
 fn pair(input: u8, output: u8) -> Pair {
     Pair { input, output }
 }

@@ -18,6 +18,7 @@ impl Setting {
     }
 
     /// The input that is joined to `output`, if any; none for an output of 16 or more.
+    // Beside `output_of`, since either names its own side; what is behind both is one call.
     pub fn input_of(&self, output: u8) -> Option<u8>
         ensures { result ≡ input_at self.now output }
     {
