@@ -8,7 +8,7 @@ use Rattle.crossbar.specs.Models.{given_by, input_at}
 use Rattle.crossbar.specs.declared.setting.Setting.{Setting}
 use Rattle.crossbar.specs.declared.setting.pairs.Pairs.{Pairs}
 use Rattle.crossbar.proofs.Joins.{joined_past, pairs_none, pairs_some}
-use Rattle.crossbar.proofs.Serving.{below, below_no, below_yes}
+use Rattle.crossbar.proofs.Serving.{below, below_all, below_no, below_yes}
 
 -- what is joined below k is joined
 pub below_tell : (k : ℕ) (s : Joins) (i j : ℕ) → below k s j ≡ Some i → (j < k) × (s j ≡ Some i)
@@ -20,16 +20,6 @@ below_tell k s i j e =
           let z : ◌≡◌ {A = ℕ} 0 1 = cc in
           absurd (omega arith)
     ]
-
-pub below_all : (n : ℕ) (s : Joins) → ((j : ℕ) → n ≤ j → s j ≡ None) → below n s ≡ s
-below_all n s past = fun_ext at
-  where
-    at : (j : ℕ) → below n s j ≡ s j
-    at j =
-        elim (cases_lt j n) [
-          | inl l ↦ below_yes n s j l
-          | inr g ↦ below_no n s j g ∙ sym (past j g)
-        ]
 
 -- every output but k is the same below k and below k + 1
 below_other : (s : Joins) (k j : ℕ) → (j ≡ k → ⊥) → below k s j ≡ below (k + 1) s j

@@ -1,6 +1,7 @@
 -- Serving pair by pair, in order of output.
-use Rattle.std.proofs.Common.{◌≡◌, ℕ, zero, suc, ◌+◌, ◌-◌, ◌<◌, ◌≤◌, Bool, true, false, cond, ◌&&◌, eqb, ltb, List, [], ◌∷◌, ◌++◌, length, Some, None, Option, sym, refl, ap, ◌∙◌, subst, inl, inr, add-one, arith, length-append}
+use Rattle.std.proofs.Common.{◌≡◌, ℕ, zero, suc, ◌+◌, ◌-◌, ◌<◌, ◌≤◌, cond, ◌&&◌, eqb, ltb, List, [], ◌∷◌, ◌++◌, length, Some, None, Option, sym, refl, ap, ◌∙◌, subst, inl, inr, add-one, arith, length-append}
 use mathlib.Core.Path.{fun_ext}
+use Rattle.std.proofs.Math.Bool.{and-true}
 use Rattle.std.proofs.lemmas.Bool.{and_right, cases_eq, cases_lt, eq-eqb, le-ltb, lt-ltb, ne_eqb}
 use Rattle.std.specs.Option.{option_map, option_to_list}
 use Rattle.crossbar.specs.Clearing.{served}
@@ -42,10 +43,6 @@ taken (p ∷ ps) d = taken ps (one_less p.input p.output d)
 pub taken_more : (ps : List Pair) (p : Pair) (d : Counts) → taken (ps ++ p ∷ []) d ≡ one_less p.input p.output (taken ps d)
 taken_more [] p d = refl
 taken_more (q ∷ ps) p d = taken_more ps p (one_less q.input q.output d)
-
-and_true : (x y : Bool) → y ≡ true → (x && y) ≡ x
-and_true true y e = e
-and_true false y e = refl
 
 -- how far serving a demand by the setting s has come, from `before` to `now`, by the pairs that `it` has given
 pub record Underway (before now : Demand) (s : Setting) (it : Pairs) (departed : ℕ) : Type 0 where
@@ -104,7 +101,7 @@ module _ (s : Joins) (d : Counts) (k : ℕ) where
       at i j =
           elim (cases_eq j k) [
             | inl e ↦
-                let here : single a k i j ≡ is_input (Some a) i = ap (λ t. cond {A = ℕ} t 1 0) (and_true (eqb i a) (eqb j k) (eq-eqb j k e)) in
+                let here : single a k i j ≡ is_input (Some a) i = ap (λ t. cond {A = ℕ} (eqb i a && t) 1 0) (eq-eqb j k e) ∙ ap (λ t. cond {A = ℕ} t 1 0) (and-true (eqb i a)) in
                 omega (arith, before i j e, after (Some a) is i j e, here)
             | inr ne ↦
                 let none : single a k i j ≡ 0 = ap (λ t. cond {A = ℕ} t 1 0) (and_right (eqb i a) (eqb j k) (ne_eqb j k ne)) in

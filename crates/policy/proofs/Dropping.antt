@@ -1,11 +1,11 @@
 -- The pairs of a setting that have a packet.
-use Rattle.std.proofs.Common.{◌≡◌, ℕ, ◌<◌, ◌≤◌, Bool, true, false, cond, not, ltb, ◌⊎◌, [], ◌∷◌, ◌++◌, is_some, Some, None, MatchBool, Option, sym, refl, ap, ◌∙◌, subst, inl, inr, arith}
+use Rattle.std.proofs.Common.{◌≡◌, ℕ, ◌≤◌, Bool, true, false, cond, not, ltb, ◌⊎◌, [], ◌∷◌, ◌++◌, is_some, Some, None, MatchBool, Option, sym, refl, ap, ◌∙◌, subst, inl, inr, arith}
 use mathlib.Core.Path.{fun_ext}
-use Rattle.std.proofs.lemmas.Bool.{and_right, cases_eq, cases_lt, eq-eqb, le-ltb, lt-ltb, ltb-true, ne_eqb}
+use Rattle.std.proofs.lemmas.Bool.{and_right, cases_eq, eq-eqb, le-ltb, lt-ltb, ltb-true, ne_eqb}
 use Rattle.std.proofs.lemmas.Bool.Decides.{when_false, when_true}
 use Rattle.crossbar.proofs.Giving.{below_tell, given_more}
 use Rattle.crossbar.proofs.Moving.{joinable_free}
-use Rattle.crossbar.proofs.Places.{grid_outside}
+use Rattle.crossbar.proofs.Room.{waits_inside}
 use Rattle.crossbar.proofs.Serving.{below}
 use Rattle.crossbar.specs.Clearing.{Lawful}
 use Rattle.crossbar.specs.Joining.{IsSetting, Joins, pairs_below, unjoined, with_pair}
@@ -54,18 +54,6 @@ packets_lawful n d s law = fun_ext at
 
     at : (j : ℕ) → with_packets d s j ≡ s j
     at j = go j (s j) refl
-
--- a pair with a packet is one of the n × n
-pub waits_inside : (d : Demand) (i j : ℕ) → 1 ≤ waiting d i j → (i < size d) × (j < size d)
-waits_inside d i j h =
-    elim (cases_lt i (size d)) [
-      | inl a ↦
-          elim (cases_lt j (size d)) [
-            | inl b ↦ (a, b)
-            | inr b ↦ absurd (omega (arith, grid_outside (size d) d.counts i j (inr b)))
-          ]
-      | inr a ↦ absurd (omega (arith, grid_outside (size d) d.counts i j (inl a)))
-    ]
 
 pub packets_matched : (d : Demand) (s : Joins) → IsSetting 16 s → Matched (size d) (waiting d) (with_packets (waiting d) s)
 packets_matched d s rule =

@@ -30,7 +30,7 @@ FirstOpen m found =
     ((k : ℕ) → k < ports_of m → is_open m k ≡ false)
     (λ i. (i < ports_of m) × (is_open m i ≡ true) × ((k : ℕ) → k < i → is_open m k ≡ false))
 
--- the side and the load are the same; only the setting may differ (apart from it they could not, and what `fits` says needs all three)
+-- the side and the load are the same; only the setting may differ (they stand in one struct, since its invariant speaks of side and setting)
 pub record Alike (m k : Mending) : Type 0 where
   pub side : k.side ≡ m.side
   pub want : k.want ≡ m.want

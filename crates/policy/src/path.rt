@@ -1,5 +1,4 @@
 //! The path policy.
-
 use crate::mend::lawful_setting;
 use crate::rule::{ByRule, Rule};
 use crossbar::demand::Demand;
