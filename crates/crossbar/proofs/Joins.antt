@@ -1,11 +1,40 @@
 -- Joining one pair more, the setting rule, and the pairs in order of output.
-use Rattle.std.proofs.Common.{◌≡◌, ℕ, zero, suc, ◌+◌, ◌<◌, ◌≤◌, List, [], ◌∷◌, ◌++◌, length, get_or, Some, None, Option, refl, ap, ◌∙◌, inl, inr, add-zero, add-one, arith, MatchOption}
+use Rattle.std.proofs.Common.{◌≡◌, ℕ, zero, suc, ◌+◌, ◌<◌, ◌≤◌, List, [], ◌∷◌, ◌++◌, length, get_or, Some, None, Option, refl, ap, ◌∙◌, inl, inr, add-zero, add-one, arith, MatchOption, Bool, true, not, ◌&&◌, ltb, is_some}
 use Rattle.std.specs.Option.{option_map, option_to_list}
 use Rattle.std.proofs.lemmas.List.{append-nil, get_or_past}
-use Rattle.std.proofs.lemmas.Bool.{cases_lt}
+use Rattle.std.proofs.lemmas.Bool.{cases_lt, and_parts, false≢true, ltb-true}
+use Rattle.crossbar.specs.Arrays.{Within}
 use Rattle.crossbar.specs.Joining.{IsSetting, Joins, pairs_below}
-use Rattle.crossbar.specs.Models.{input_at, output_at}
+use Rattle.crossbar.specs.Models.{input_at, output_at, joinable}
+use Rattle.crossbar.specs.declared.port.Pair.{Pair}
 use Rattle.crossbar.specs.declared.setting.Setting.{Setting}
+
+free_from_test : (o : Option ℕ) → not (is_some o) ≡ true → o ≡ None
+free_from_test None e = refl
+free_from_test (Some x) e = absurd (false≢true e)
+
+-- what the test of a pair tells
+pub record Free (s : Setting) (p : Pair) : Type 0 where
+  pub input : p.input < 16
+  pub output : p.output < 16
+  pub input_free : output_at s p.input ≡ None
+  pub output_free : input_at s p.output ≡ None
+
+pub free_from_joinable : (s : Setting) (p : Pair) → joinable s p ≡ true → Free s p
+free_from_joinable s p e =
+    let in_tested : Bool = ltb p.input 16 in
+    let out_tested : Bool = ltb p.output 16 in
+    let in_free : Bool = not (is_some (output_at s p.input)) in
+    let out_free : Bool = not (is_some (input_at s p.output)) in
+    let a = and_parts (in_tested && out_tested && in_free) out_free e in
+    let b = and_parts (in_tested && out_tested) in_free a.0 in
+    let c = and_parts in_tested out_tested b.0 in
+    record {
+      input = ltb-true p.input 16 c.0;
+      output = ltb-true p.output 16 c.1;
+      input_free = free_from_test (output_at s p.input) b.1;
+      output_free = free_from_test (input_at s p.output) a.1;
+    }
 
 -- ---- the setting rule
 
@@ -45,6 +74,18 @@ joined_past s j h = get_or_past s.inputs j None (omega (arith, s.sized.0))
 -- nor any input
 pub output_past : (s : Setting) (i : ℕ) → 16 ≤ i → output_at s i ≡ None
 output_past s i h = get_or_past s.outputs i None (omega (arith, s.sized.1))
+
+-- nor any output from a setting's end on
+pub joined_end : (s : Setting) (j : ℕ) → s.end ≤ j → input_at s j ≡ None
+joined_end s j h = go (input_at s j) refl
+  where
+    go : (o : Option ℕ) → input_at s j ≡ o → o ≡ None
+    go None e = refl
+    go (Some i) e = absurd (omega (arith, (s.within i j e).1))
+
+-- its end holds for the other side too
+pub within_back : (s : Setting) → Within s.end s.outputs
+within_back s i j e = let (there, here) = s.within j i (s.back i j e) in (here, there)
 
 -- ---- the pairs in order of output
 

@@ -14,3 +14,7 @@ grid n rows i j = if nat_lt i n && nat_lt j n then slice_index (slice_index_or r
 -- where the first array joins j to i, the second joins i to j
 abbrev pub Mirrors : List (Option ℕ) → List (Option ℕ) → Type 0
 Mirrors xs ys = (i j : ℕ) → slice_index_or xs j None ≡ Some i → slice_index_or ys i None ≡ Some j
+
+-- every port that the array joins, and what it joins it to, is below n
+abbrev pub Within : ℕ → List (Option ℕ) → Type 0
+Within n xs = (i j : ℕ) → slice_index_or xs j None ≡ Some i → (i < n) × (j < n)

@@ -7,11 +7,13 @@ ghost use Rattle.policy.specs.Kernel.{Alike, Ends, FirstOpen, GrownFrom, IsFull,
 ghost use Rattle.policy.specs.Paths.{Full};
 
 use crate::mending::Mending;
+use crate::trail::{Path, Trail};
 use mask::Mask;
 
 impl Mending<'_> {
     /// Joins every input of a load of `want` or more, along paths, and keeps joined what was. It answers whether it
     /// could: where not, no setting at all joins them all. Nothing changes where they all were joined.
+    #[inline(always)]
     pub(crate) fn fill(&mut self) -> bool
         ensures alike { Alike self.old self.new }
         ensures grown { GrownFrom self.old self.new }
@@ -71,6 +73,17 @@ impl Mending<'_> {
         ensures alike { Alike self.old self.new }
         ensures joined { JoinedOne self.old start self.new result }
     {
+        // Most paths end where they begin.
+        let trail = Trail::new(start, self.side.ports);
+        let near = self.side.links(start).meet(trail.unseen);
+        if let Some(output) = near.meet(ends).lowest() {
+            self.shift(&Path {
+                trail,
+                place: 0,
+                output,
+            });
+            return Some(ends.without(output));
+        }
         let path = self.search(ends, start)?;
         self.shift(&path);
         Some(ends.without(path.output))

@@ -11,6 +11,7 @@ use crossbar::setting::Setting;
 ///
 /// Pairs of `start` without a packet are dropped first. The answer joins at least as many pairs as are then left, and is
 /// `start` itself where that is lawful already. Nothing is refused.
+#[inline(always)]
 pub fn mend(demand: &Demand, start: &Setting) -> Setting
     ensures { Mends (size demand.now) (waiting demand.now) (input_at start.now) (input_at result) }
 {

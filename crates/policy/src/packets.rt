@@ -7,6 +7,7 @@ use crossbar::demand::Demand;
 use crossbar::setting::Setting;
 
 /// The pairs of a setting that have a packet.
+#[inline(always)]
 pub(crate) fn with_packets(demand: &Demand, setting: &Setting) -> Setting
     ensures { input_at result ≡ with_packets (waiting demand.now) (input_at setting.now) }
 {

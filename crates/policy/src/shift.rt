@@ -8,6 +8,7 @@ use crossbar::port::Pair;
 impl Mending<'_> {
     /// Moves each input of a path to its next output, the last one first, so that the first input of the trail is
     /// joined. Where the last output was joined to an input, that input is free afterwards.
+    #[inline(always)]
     pub(crate) fn shift(&mut self, path: &Path)
         requires { IsPath self.old path.now }
         ensures alike { Alike self.old self.new }

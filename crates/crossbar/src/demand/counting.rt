@@ -88,6 +88,7 @@ impl Demand {
 
     /// Adds one packet for a pair, and says whether there was room; where there was none, nothing changes.
     // A `bool`, as `HashSet::insert` gives: why a packet is refused is for a batch to say, by its own bound.
+    #[inline(always)]
     #[must_use]
     pub fn add(&mut self, pair: Pair) -> bool
         ensures { Added self.old pair result self.new }
@@ -97,6 +98,7 @@ impl Demand {
 
     /// Adds `count` packets for a pair, and says whether there was room for all of them: the demand has the pair, and
     /// neither of its loads would pass 1,024. Where there was not, nothing changes.
+    #[inline(always)]
     #[must_use]
     pub fn add_many(&mut self, pair: Pair, count: u16) -> bool
         ensures { AddedMany self.old pair count result self.new }
@@ -121,6 +123,7 @@ impl Demand {
     }
 
     /// Makes the count of a pair `count`, for which both its loads have room.
+    #[inline(always)]
     pub(super) fn recount(&mut self, pair: Pair, count: u16)
         requires pair { has_pair self.old pair ≡ true }
         requires input { load_of self.old (Input pair.input) + count ≤ 1024 + waiting self.old pair.input pair.output }

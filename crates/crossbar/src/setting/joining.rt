@@ -1,5 +1,5 @@
 //! Making a setting, joining pairs, and reading what is joined.
-ghost use Rattle.std.specs.Prelude.{◌≡◌, ℕ, Some, MatchBool, MatchOption, ◌≢◌};
+ghost use Rattle.std.specs.Prelude.{◌≡◌, ℕ, true, Some, MatchBool, MatchOption, ◌≢◌};
 ghost use Rattle.crossbar.specs.Joining.{unjoined, with_pair};
 ghost use Rattle.crossbar.specs.Models.{input_at, joinable, output_at};
 
@@ -14,6 +14,7 @@ impl Setting {
         Setting {
             inputs: [None; 16],
             outputs: [None; 16],
+            end: 0,
         }
     }
 
@@ -53,8 +54,20 @@ impl Setting {
         if !self.can_join(pair) {
             return false;
         }
+        self.put(pair);
+        true
+    }
+
+    /// Joins a pair that can be joined.
+    pub(super) fn put(&mut self, pair: Pair)
+        requires { joinable self.old pair ≡ true }
+        ensures { input_at self.new ≡ with_pair pair.input pair.output (input_at self.old) }
+    {
         self.outputs[pair.input as usize] = Some(pair.output);
         self.inputs[pair.output as usize] = Some(pair.input);
-        true
+        let end = pair.input.max(pair.output) + 1;
+        if self.end < end {
+            self.end = end;
+        }
     }
 }

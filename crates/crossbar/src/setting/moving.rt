@@ -20,7 +20,7 @@ impl Setting {
             self.free(output);
         }
         self.free(pair.output);
-        let _joined = self.join(pair);
+        self.put(pair);
     }
 
     /// Frees an output, and the input that it was joined to.
@@ -41,6 +41,7 @@ impl Setting {
         Setting {
             inputs: self.outputs,
             outputs: self.inputs,
+            end: self.end,
         }
     }
 }

@@ -37,7 +37,7 @@ impl Iterator for Pairs<'_> {
 
     fn next(&mut self) -> Option<Pair> {
         // `find_map` would do, and then have to take the output out of the pair again to go on after it.
-        for output in self.output..MOST_PORTS {
+        for output in self.output..self.setting.end {
             if let Some(input) = self.setting.input_of(output) {
                 self.output = output + 1;
                 return Some(Pair { input, output });

@@ -1,4 +1,4 @@
-use Rattle.std.proofs.Common.{◌≡◌, ℕ, ◌<◌, ◌≤◌, inl, inr, sym, subst, arith}
+use Rattle.std.proofs.Common.{◌≡◌, ℕ, ◌<◌, ◌≤◌, inl, inr, sym, ap, subst, arith}
 use Rattle.std.proofs.lemmas.Bool.{cases_lt}
 use Rattle.crossbar.specs.Clearing.{NoFewer}
 use Rattle.crossbar.specs.Loads.{index}
@@ -6,6 +6,7 @@ use Rattle.crossbar.specs.Models.{largest_of, load_of, size, waiting}
 use Rattle.crossbar.specs.declared.demand.Demand.{Demand}
 use Rattle.crossbar.specs.declared.port.Port.{Port}
 use Rattle.crossbar.specs.declared.port.Port.TheVariants.{Input, Output}
+use Rattle.crossbar.specs.declared.ports.Ports.{Ports}
 use Rattle.crossbar.proofs.Clearing.{no_fewer}
 use Rattle.crossbar.proofs.Loads.{load_le, loads_le}
 use Rattle.crossbar.proofs.Room.{port_inside}
@@ -26,11 +27,12 @@ returns c =
     let d = c.args.self.now in
     let at_inputs = c.largest_load-at_inputs.ensures in
     let at_outputs = c.largest_load-at_outputs.ensures in
-    let few = d.ports.few in
+    let inputs : c.inputs.result.ports.count ≡ size d = ap (λ (p : Ports). p.count) c.inputs.ensures.ports in
+    let outputs : c.outputs.result.ports.count ≡ size d = ap (λ (p : Ports). p.count) c.outputs.ensures.ports in
     let below : (p : Port) → index p < size d → load_of d p ≤ c.max.result =
     elim [
-      | Input i ↦ λ l. omega (arith, c.inputs.ensures.loads i, at_inputs.most i (omega arith), c.max.ensures)
-      | Output j ↦ λ l. omega (arith, c.outputs.ensures.loads j, at_outputs.most j (omega arith), c.max.ensures)
+      | Input i ↦ λ l. omega (arith, c.inputs.ensures.loads i, at_inputs.most i (omega (arith, l, inputs)), c.max.ensures)
+      | Output j ↦ λ l. omega (arith, c.outputs.ensures.loads j, at_outputs.most j (omega (arith, l, outputs)), c.max.ensures)
     ]
     in
     let value : c.max.result ≡ largest_of d =

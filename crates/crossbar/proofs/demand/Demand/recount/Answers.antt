@@ -1,4 +1,4 @@
-use Rattle.std.proofs.Common.{◌≤◌, sym, ap, ◌∙◌, subst, arith}
+use Rattle.std.proofs.Common.{◌≤◌, ltb, sym, ap, ◌∙◌, subst, arith}
 use Rattle.crossbar.specs.Loads.{largest_load, turned}
 use Rattle.crossbar.specs.Models.{size, waiting}
 use Rattle.crossbar.specs.Sides.{Tells}
@@ -22,6 +22,13 @@ recount-requires-clause-fits c =
     let (i, o) = inside_from_pair d p c.requires.pair in
     omega (arith, grid_inside (size d) d.counts p.input p.output i o, c.requires.input, d.at_inputs.loads p.input)
 
+pub recount-requires-clause-marked : goal.recount-requires-clause-marked
+recount-requires-clause-marked c =
+    let d = c.args.self.now in
+    let p = c.args.pair in
+    let (i, o) = inside_from_pair d p c.requires.pair in
+    d.at_inputs.marks p.input p.output ∙ ap (ltb 0) (grid_inside (size d) d.counts p.input p.output i o)
+
 pub recount-requires-2-clause-part : goal.recount-requires-2-clause-part
 recount-requires-2-clause-part c =
     let d = c.args.self.now in
@@ -35,6 +42,13 @@ recount-requires-2-clause-fits c =
     let p = c.args.pair in
     let (i, o) = inside_from_pair d p c.requires.pair in
     omega (arith, grid_inside (size d) d.counts p.input p.output i o, c.requires.output, d.at_outputs.loads p.output)
+
+pub recount-requires-2-clause-marked : goal.recount-requires-2-clause-marked
+recount-requires-2-clause-marked c =
+    let d = c.args.self.now in
+    let p = c.args.pair in
+    let (i, o) = inside_from_pair d p c.requires.pair in
+    d.at_outputs.marks p.output p.input ∙ ap (ltb 0) (grid_inside (size d) d.counts p.input p.output i o)
 
 pub invariant_of-self : goal.invariant_of-self
 invariant_of-self c =

@@ -2,7 +2,7 @@ use Rattle.std.proofs.Common.{◌≡◌, ◌+◌, ◌-◌, ◌≤◌, [], ◌∷
 use Rattle.crossbar.specs.Joining.{pairs_below}
 use Rattle.crossbar.specs.Models.{given_by, input_at}
 use Rattle.crossbar.specs.declared.setting.pairs.Pairs.{Pairs}
-use Rattle.crossbar.proofs.Joins.{joined_past, pairs_none, pairs_past, pairs_some}
+use Rattle.crossbar.proofs.Joins.{joined_end, joined_past, pairs_none, pairs_past, pairs_some}
 use Rattle.crossbar.proofs.setting.pairs.PairsIterator.next.Goals as goal
 use Rattle.std.proofs.iter.Next.{firm}
 
@@ -36,10 +36,13 @@ returns c =
     let s = input_at p.setting.now in
     let k = c.loop-output.output in
     let same = c.loop-output.invariant.0 in
-    let past : 16 ≤ k = omega arith in
-    let far : k ≡ 16 + (k - 16) = omega arith in
+    let past : p.setting.now.end ≤ k = omega arith in
+    let far : k + 16 ≡ 16 + k = omega arith in
     let all : given_by p ≡ pairs_below s 16 =
-    sym c.loop-output.invariant.1 ∙ ap (pairs_below s) far ∙ pairs_past s 16 (joined_past p.setting.now) (k - 16)
+    sym c.loop-output.invariant.1
+    ∙ sym (pairs_past s k (λ j h. joined_end p.setting.now j (omega (arith, past))) 16)
+    ∙ ap (pairs_below s) far
+    ∙ pairs_past s 16 (joined_past p.setting.now) k
     in
     record {
       steps = (
