@@ -74,6 +74,10 @@ listed_below s (suc k) j = ap (λ m. listed (pairs_below s m) j) (sym (add-one k
 same_given : (s : Joins) (p q : ℕ) → pairs_below s p ≡ pairs_below s q → below p s ≡ below q s
 same_given s p q e = fun_ext (λ j. sym (listed_below s p j) ∙ ap (λ xs. listed xs j) e ∙ listed_below s q j)
 
+-- an output that is free adds nothing
+pub below_more_none : (s : Joins) (k : ℕ) → s k ≡ None → below k s ≡ below (k + 1) s
+below_more_none s k free = same_given s k (k + 1) (sym (pairs_none s k free))
+
 pub given_none : (s : Joins) (p : ℕ) → pairs_below s p ≡ [] → below p s ≡ (λ j. None)
 unfolding pairs_below
 given_none s p e = same_given s p 0 e ∙ fun_ext (λ j. below_no 0 s j (omega arith))

@@ -1,5 +1,5 @@
 -- Loads as counts change, and the largest load over all ports.
-use Rattle.std.proofs.Common.{◌≡◌, ℕ, ◌+◌, ◌-◌, ◌*◌, ◌<◌, ◌≤◌, Bool, true, false, cond, ◌&&◌, eqb, refl, ap, ◌∙◌, subst, inl, inr, one-mul, mul-zero, mul-one, arith}
+use Rattle.std.proofs.Common.{◌≡◌, ℕ, ◌+◌, ◌-◌, ◌*◌, ◌<◌, ◌≤◌, Bool, true, false, cond, ◌&&◌, eqb, refl, ap, ◌∙◌, subst, inl, inr, one-mul, mul-zero, mul-one, arith, sym}
 use mathlib.Core.Path.{fun_ext}
 use Rattle.std.proofs.lemmas.Bool.{cases_Bool, eqb-true}
 use Rattle.std.proofs.lemmas.Bool.Decides.{nat_tests}
@@ -117,6 +117,12 @@ more_within n a b bound d h k most i j =
     subst (λ e. largest_load n e ≤ bound) (more_one a b d) (many_within n 1 a b bound d h k most (omega arith) (omega arith))
 
 -- ---- all packets
+
+-- all packets, less some of each pair, with those that were taken
+pub packets_minus : (n : ℕ) (d m : Counts) → ((i j : ℕ) → m i j ≤ d i j) → packets n (λ i j. d i j - m i j) + packets n m ≡ packets n d
+packets_minus n d m h =
+    sym (total_add n (λ i. load n (λ i j. d i j - m i j) (Input i)) (λ i. load n m (Input i)))
+    ∙ total_same n _ _ (λ i _. load_minus_exact n d m (Input i) h)
 
 pub packets_single : (n a b : ℕ) → a < n → b < n → packets n (single a b) ≡ 1
 packets_single n a b h k = total_same n _ _ (λ i _. load_single n a b (Input i) h k) ∙ total_single n a h

@@ -1,9 +1,9 @@
 -- Arrays after one place is written, and the grid of counts.
-use Rattle.std.proofs.Common.{◌≡◌, ℕ, zero, suc, ◌<◌, ◌≤◌, Bool, true, false, cond, ◌&&◌, eqb, ltb, ◌⊎◌, List, [], length, get_or, set, replicate, sym, refl, ap, ◌∙◌, inl, inr, arith}
+use Rattle.std.proofs.Common.{◌≡◌, ℕ, zero, suc, ◌<◌, ◌≤◌, Bool, true, false, cond, ◌&&◌, eqb, ltb, ◌⊎◌, List, [], length, get_or, set, replicate, sym, refl, ap, ◌∙◌, inl, inr, arith, Some, None, Option}
 use mathlib.Core.Path.{fun_ext}
 use Rattle.std.proofs.lemmas.List.{get_or-set_same, get_or-set_other, length-set}
 use Rattle.std.proofs.lemmas.Bool.{and_right, cases_eq, cases_lt, eq-eqb, ne_eqb, lt-ltb, le-ltb}
-use Rattle.crossbar.specs.Arrays.{Square, grid}
+use Rattle.crossbar.specs.Arrays.{Square, grid, Mirrors}
 use Rattle.crossbar.specs.Loads.{nothing, with_count}
 
 pub same_everywhere : {A : Type 0} (n : ℕ) (a : A) (i : ℕ) → get_or (replicate n a) i a ≡ a
@@ -17,6 +17,25 @@ set_places xs b v d h j =
     elim (cases_eq j b) [
       | inl e ↦ ap (λ k. get_or (set xs b v) k d) e ∙ get_or-set_same xs b v d h ∙ sym (ap (λ t. cond t v (get_or xs j d)) (eq-eqb j b e))
       | inr e ↦ get_or-set_other xs b j v d e ∙ sym (ap (λ t. cond t v (get_or xs j d)) (ne_eqb j b e))
+    ]
+
+-- one pair more, at ports that are free
+pub mirrors_set : (xs ys : List (Option ℕ)) (a b : ℕ) → b < length xs → a < length ys → get_or ys a None ≡ None → Mirrors xs ys → Mirrors (set xs b (Some a)) (set ys a (Some b))
+mirrors_set xs ys a b h k free m i j e =
+    elim (cases_eq j b) [
+      | inl q ↦
+          let here : get_or (set xs b (Some a)) j None ≡ Some a = ap (λ x. get_or (set xs b (Some a)) x None) q ∙ get_or-set_same xs b (Some a) None h in
+          let same : i ≡ a = cc in
+          ap (λ x. get_or (set ys a (Some b)) x None) same ∙ get_or-set_same ys a (Some b) None k ∙ ap Some (sym q)
+      | inr q ↦
+          let old : get_or ys i None ≡ Some j = m i j (sym (get_or-set_other xs b j (Some a) None q) ∙ e) in
+          let other : i ≡ a → ⊥ =
+          λ s.
+          let none : get_or ys i None ≡ None = ap (λ x. get_or ys x None) s ∙ free in
+          let z : ◌≡◌ {A = ℕ} 0 1 = cc in
+          omega arith
+          in
+          get_or-set_other ys a i (Some b) None other ∙ old
     ]
 
 -- ---- the grid of counts

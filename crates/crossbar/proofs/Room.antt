@@ -1,8 +1,8 @@
 -- What the tests of a pair tell.
-use Rattle.std.proofs.Common.{◌≡◌, ℕ, ◌+◌, ◌-◌, ◌<◌, ◌≤◌, Bool, true, false, ◌&&◌, ltb, leb, ◌⊎◌, sym, ◌∙◌, inl, inr, arith}
+use Rattle.std.proofs.Common.{◌≡◌, ℕ, ◌+◌, ◌-◌, ◌<◌, ◌≤◌, Bool, true, false, ◌&&◌, ltb, leb, ◌⊎◌, sym, ◌∙◌, inl, inr, arith, add-one}
 use Rattle.std.proofs.lemmas.Bool.{and_cases, and_from, and_parts, cases_lt, le-leb, leb-true, lt-leb, lt-ltb, ltb-false, ltb-true}
 use Rattle.crossbar.specs.Loads.{index}
-use Rattle.crossbar.specs.Models.{has_pair, has_room_for, load_of, size, waiting}
+use Rattle.crossbar.specs.Models.{has_pair, has_room_for, load_of, size, waiting, has_room}
 use Rattle.crossbar.specs.declared.demand.Demand.{Demand}
 use Rattle.crossbar.specs.declared.port.Pair.{Pair}
 use Rattle.crossbar.specs.declared.port.Port.{Port}
@@ -60,6 +60,10 @@ room_from_test bound k d p e =
       at_input = leb-true (load_of d (Input p.input) + k) bound b.1;
       at_output = leb-true (load_of d (Output p.output) + k) bound a.1;
     }
+
+-- room for one packet is what `has_room` tests
+pub room_for_one : (bound : ℕ) (d : Demand) (p : Pair) → has_room_for bound 1 d p ≡ has_room bound d p
+room_for_one bound d p = simp add-one
 
 -- what a load leaves of the bound, compared, is the sum compared
 pub room_left : (bound k x : ℕ) → x ≤ bound → leb k (bound - x) ≡ leb (x + k) bound

@@ -2,7 +2,7 @@
 use Rattle.std.proofs.Common.{◌≡◌, ℕ, zero, suc, ◌+◌, ◌-◌, ◌<◌, ◌≤◌, cond, ◌&&◌, eqb, ltb, List, [], ◌∷◌, ◌++◌, length, Some, None, Option, sym, refl, ap, ◌∙◌, subst, inl, inr, add-one, arith, length-append}
 use mathlib.Core.Path.{fun_ext}
 use Rattle.std.proofs.Math.Bool.{and-true}
-use Rattle.std.proofs.lemmas.Bool.{and_right, cases_eq, cases_lt, eq-eqb, le-ltb, lt-ltb, ne_eqb}
+use Rattle.std.proofs.lemmas.Bool.{and_right, cases_eq, cases_lt, eq-eqb, le-ltb, lt-ltb, ne_eqb, and_parts, cases_Bool, eqb-true}
 use Rattle.std.specs.Option.{option_map, option_to_list}
 use Rattle.crossbar.specs.Clearing.{served}
 use Rattle.crossbar.specs.Joining.{Joins, is_input, pairs_below}
@@ -33,6 +33,30 @@ below_all n s past = fun_ext at
         elim (cases_lt j n) [
           | inl l ↦ below_yes n s j l
           | inr g ↦ below_no n s j g ∙ sym (past j g)
+        ]
+
+-- serving takes nothing of the outputs past the last one, which have no packets
+pub serve_whole : (n : ℕ) (s : Joins) (d : Counts) → ((i j : ℕ) → n ≤ j → d i j ≡ 0) → served (below n s) d ≡ served s d
+serve_whole n s d none = fun_ext (λ i. fun_ext (λ j. at i j))
+  where
+    at : (i j : ℕ) → served (below n s) d i j ≡ served s d i j
+    at i j =
+        elim (cases_lt j n) [
+          | inl l ↦ ap (λ o. d i j - is_input o i) (below_yes n s j l)
+          | inr g ↦ omega (arith, none i j g)
+        ]
+
+-- nothing is taken of a pair without a packet
+pub less_none : (d : Counts) (a b : ℕ) → d a b ≡ 0 → d ≡ one_less a b d
+less_none d a b z = fun_ext (λ i. fun_ext (λ j. at i j))
+  where
+    at : (i j : ℕ) → d i j ≡ one_less a b d i j
+    at i j =
+        elim (cases_Bool (eqb i a && eqb j b)) [
+          | inl e ↦
+              let p = and_parts (eqb i a) (eqb j b) e in
+              omega (arith, ap (λ x. d x j) (eqb-true i a p.0), ap (λ x. d a x) (eqb-true j b p.1), z)
+          | inr e ↦ omega (arith, ap (λ t. cond {A = ℕ} t 1 0) e)
         ]
 
 -- one packet is taken of each of these pairs

@@ -1,15 +1,17 @@
 -- The ports of one side after one count is written. Said of inputs; outputs follow by turning the demand.
-use Rattle.std.proofs.Common.{◌≡◌, ℕ, zero, suc, ◌+◌, ◌-◌, ◌*◌, ◌<◌, ◌≤◌, Bool, true, false, cond, ◌&&◌, eqb, ltb, List, get_or, set, replicate, sym, refl, ap, ◌∙◌, inl, inr, mul-zero, mul-one, arith}
+use Rattle.std.proofs.Common.{◌≡◌, ℕ, zero, suc, ◌+◌, ◌-◌, ◌*◌, ◌<◌, ◌≤◌, Bool, true, false, cond, ◌&&◌, eqb, ltb, List, get_or, set, replicate, sym, refl, ap, ◌∙◌, inl, inr, mul-zero, mul-one, arith, []}
 use mathlib.Core.Path.{fun_ext}
+use Rattle.crossbar.specs.Arrays.{Square, grid}
 use Rattle.std.proofs.lemmas.List.{get_or-set_same, get_or-set_other, length-set}
 use Rattle.std.proofs.lemmas.Bool.{and_from, and_left, and_parts, cases_Bool, cases_eq, eq-eqb, eqb-true, lt-ltb, ne_eqb}
-use Rattle.crossbar.specs.Loads.{Counts, index, load, largest_load, packets, single, turned, with_count}
+use Rattle.crossbar.specs.Loads.{Counts, index, load, largest_load, packets, single, turned, with_count, more, one_less}
 use Rattle.crossbar.specs.Sums.{total}
 use Rattle.crossbar.specs.Sides.{Tells, at_port, idle}
 use Rattle.crossbar.specs.declared.port.Port.{Port}
 use Rattle.crossbar.specs.declared.port.Port.TheVariants.{Input, Output}
 use Rattle.crossbar.specs.declared.side.PortLoad.{PortLoad}
 use Rattle.crossbar.proofs.Loads.{count_le, load_le, load_plus, load_same, load_single, load_times, load_zeros, loads_le, touches}
+use Rattle.crossbar.proofs.Places.{grid_inside, grid_set}
 use Rattle.crossbar.proofs.Sums.{total_add, total_same, total_single, total_times}
 use Rattle.mask.proofs.Digits.{zero_bit}
 use Rattle.mask.specs.Bits.{holds}
@@ -34,6 +36,52 @@ turned_count v a b d = fun_ext (λ j. fun_ext (λ i. ap (λ t. cond t v (d i j))
     swap true false = refl
     swap false true = refl
     swap false false = refl
+
+-- where one waits at a pair, the pair alone is part of what waits
+pub single_le : (a b : ℕ) (d : Counts) → 1 ≤ d a b → (i j : ℕ) → single a b i j ≤ d i j
+single_le a b d waits i j =
+    elim (cases_Bool (eqb i a && eqb j b)) [
+      | inl e ↦
+          let p = and_parts (eqb i a) (eqb j b) e in
+          let here : d i j ≡ d a b = ap (λ x. d x j) (eqb-true i a p.0) ∙ ap (λ x. d a x) (eqb-true j b p.1) in
+          omega (arith, here, waits, ap (λ t. cond {A = ℕ} t 1 0) e)
+      | inr e ↦ omega (arith, ap (λ t. cond {A = ℕ} t 1 0) e)
+    ]
+
+-- one count changed by f, a sum or a difference, which changes nothing at 0
+count_change : (a b : ℕ) (d : Counts) (f : ℕ → ℕ → ℕ) → ((x : ℕ) → f x 0 ≡ x) → with_count (f (d a b) 1) a b d ≡ (λ i j. f (d i j) (single a b i j))
+count_change a b d f same = fun_ext (λ i. fun_ext (λ j. at i j))
+  where
+    at : (i j : ℕ) → with_count (f (d a b) 1) a b d i j ≡ f (d i j) (single a b i j)
+    at i j =
+        elim (cases_Bool (eqb i a && eqb j b)) [
+          | inl e ↦
+              let p = and_parts (eqb i a) (eqb j b) e in
+              let here : d i j ≡ d a b = ap (λ x. d x j) (eqb-true i a p.0) ∙ ap (λ x. d a x) (eqb-true j b p.1) in
+              ap (λ t. cond t (f (d a b) 1) (d i j)) e
+              ∙ ap (λ x. f x 1) (sym here)
+              ∙ sym (ap (λ t. f (d i j) (cond {A = ℕ} t 1 0)) e)
+          | inr e ↦
+              ap (λ t. cond t (f (d a b) 1) (d i j)) e
+              ∙ sym (same (d i j))
+              ∙ sym (ap (λ t. f (d i j) (cond {A = ℕ} t 1 0)) e)
+        ]
+
+-- the same of the rows of a demand: one count changed by f, m more, and one less
+module _ (n : ℕ) (rows : List (List ℕ)) (a b : ℕ) (square : Square rows) (few : n ≤ 16) (h : a < n) (k : b < n) where
+  pub grid_change : (f : ℕ → ℕ → ℕ) → ((x : ℕ) → f x 0 ≡ x) → grid n (set rows a (set (get_or rows a []) b (f (get_or (get_or rows a []) b 0) 1))) ≡ (λ i j. f (grid n rows i j) (single a b i j))
+  grid_change f same =
+      grid_set n rows a b (f (get_or (get_or rows a []) b 0) 1) square few h k
+      ∙ ap (λ x. with_count (f x 1) a b (grid n rows)) (sym (grid_inside n rows a b h k))
+      ∙ count_change a b (grid n rows) f same
+
+  pub grid_more : (m : ℕ) → grid n (set rows a (set (get_or rows a []) b (get_or (get_or rows a []) b 0 + m))) ≡ more m a b (grid n rows)
+  grid_more m =
+      ap (λ x. grid n (set rows a (set (get_or rows a []) b (get_or (get_or rows a []) b 0 + x)))) (sym (mul-one m))
+      ∙ grid_change (λ x y. x + m * y) (λ x. omega (arith, mul-zero m))
+
+  pub grid_less : grid n (set rows a (set (get_or rows a []) b (get_or (get_or rows a []) b 0 - 1))) ≡ one_less a b (grid n rows)
+  grid_less = grid_change (λ x y. x - y) (λ x. omega arith)
 
 module _ (n v a b : ℕ) (d : Counts) (h : a < n) (k : b < n) where
   -- a load falls by the old count and rises by the new one, if the pair is at its port

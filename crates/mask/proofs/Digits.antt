@@ -50,6 +50,16 @@ unlike false b = b
 pub xor_bit : (a b k : ℕ) → bit (bit_xor a b) k ≡ unlike (bit a k) (bit b k)
 xor_bit = by_digit bit_xor differ unlike xor_shr xor_step (omega arith, omega arith, omega arith, omega arith) (refl, refl, refl, refl)
 
+-- without
+without_bool : (a b : Bool) → unlike a (a && b) ≡ (a && not b)
+without_bool true true = refl
+without_bool true false = refl
+without_bool false b = refl
+
+-- a port that is in a and not in b: what is left of a without b
+pub minus_bit : (a b k : ℕ) → bit (bit_xor a (bit_and a b)) k ≡ (bit a k && not (bit b k))
+minus_bit a b k = xor_bit a (bit_and a b) k ∙ ap (unlike (bit a k)) (and_bit a b k) ∙ without_bool (bit a k) (bit b k)
+
 pub zero_bit : (k : ℕ) → bit 0 k ≡ false
 unfolding bit
 zero_bit k = let q : 0 / 2 ^ k < 1 = div_below 0 (2 ^ k) 1 (pow_pos k) (omega (arith, pow_pos k)) in ne_eqb _ _ (omega arith)

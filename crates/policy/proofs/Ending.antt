@@ -1,15 +1,33 @@
 -- The outputs that end a path, found pair by pair of the setting.
-use Rattle.std.proofs.Common.{◌≡◌, ℕ, ◌<◌, ◌≤◌, Bool, true, false, cond, ltb, ◌⊎◌, ◌∷◌, [], ◌++◌, Some, None, sym, refl, ap, ◌∙◌, subst, inl, inr, arith}
-use Rattle.std.proofs.lemmas.Bool.{both_ways, cases_eq, eq-eqb, ne_eqb}
+use Rattle.std.proofs.Common.{◌≡◌, ℕ, ◌<◌, ◌≤◌, Bool, true, false, cond, ltb, ◌⊎◌, ◌∷◌, [], ◌++◌, Some, None, sym, refl, ap, ◌∙◌, subst, inl, inr, arith, ◌+◌}
+use Rattle.std.proofs.lemmas.Bool.{both_ways, cases_eq, eq-eqb, ne_eqb, lt-ltb}
 use Rattle.crossbar.specs.Joining.{Joins, pairs_below, with_pair}
 use Rattle.crossbar.specs.declared.port.Pair.{Pair}
 use Rattle.crossbar.proofs.Giving.{below_tell, given_more}
 use Rattle.crossbar.proofs.Serving.{below}
 use Rattle.mask.specs.Bits.{holds}
 use Rattle.mask.specs.declared.Mask.{Mask}
-use Rattle.policy.specs.Graphs.{Graph, partners}
-use Rattle.policy.specs.Paths.{Held, Spare}
-use Rattle.policy.proofs.Turning.{partners_none, partners_some}
+use Rattle.policy.specs.Graphs.{Graph, partners, Partners}
+use Rattle.policy.specs.Paths.{Held, Spare, Holds}
+use Rattle.policy.proofs.Turning.{partners_none, partners_some, Inverse}
+
+-- the outputs that end a path, after one that did is held
+pub spare_less : (n : ℕ) (d : Graph) (s t : Partners) (w end : ℕ) (m v : Mask) → Spare n d s w m → Holds n d s w end t → holds v end ≡ false → ((k : ℕ) → (k ≡ end → ⊥) → holds v k ≡ holds m k) → Spare n d t w v
+spare_less n d s t w end m v old h here others =
+    record {
+      held =
+          λ j l e.
+          elim (cases_eq j end) [
+            | inl q ↦ subst (λ x. Held n d t w x) (sym q) h.ended
+            | inr ne ↦ h.forth j l ne (old.held j l (sym (others j ne) ∙ e))
+          ];
+      free =
+          λ j l e k.
+          elim (cases_eq j end) [
+            | inl q ↦ both_ways (holds v end) here (ap (holds v) (sym q) ∙ e)
+            | inr ne ↦ old.free j l (sym (others j ne) ∙ e) (h.back j l ne k)
+          ];
+    }
 
 module _ (n : ℕ) (few : n ≤ 16) (d : Graph) (w : ℕ) where
   -- where nothing is joined, every output ends a path
@@ -88,3 +106,51 @@ module _ (s : Joins) (p q : ℕ) (x : Pair) (more : pairs_below s q ≡ pairs_be
       go : (t : Bool) → ltb x.output p ≡ t → (below p s x.output ≡ None) ⊎ (below p s x.output ≡ Some x.input)
       go true e = inr (ap (λ t. cond t (s x.output) None) e ∙ next_joined)
       go false e = inl (ap (λ t. cond t (s x.output) None) e)
+
+-- ---- the same, found input by input
+
+-- m are the outputs of which no input below i that is joined to one has a load of w or more
+pub record Passed (n : ℕ) (d : Graph) (s : Partners) (w : ℕ) (m : Mask) (i : ℕ) : Type 0 where
+  pub held : (j : ℕ) → j < n → holds m j ≡ false → Held n d s w j
+  pub later : (j : ℕ) → j < n → holds m j ≡ true → Held n d s w j → i ≤ s j
+
+pub passed_none : (n : ℕ) (d : Graph) (s : Partners) (w : ℕ) (m : Mask) → ((k : ℕ) → holds m k ≡ ltb k n) → Passed n d s w m 0
+passed_none n d s w m every =
+    record { held = λ j l e. absurd (both_ways (holds m j) e (every j ∙ lt-ltb j n l)); later = λ j l e h. omega arith }
+
+module _ (n : ℕ) (d : Graph) (s t : Partners) (w : ℕ) (m : Mask) (i : ℕ) (p : Passed n d s w m i) (v : Inverse n s t) (li : i < n) where
+  pub passed_skip : (w ≤ d.load i → t i < n → ⊥) → Passed n d s w m (i + 1)
+  passed_skip no' =
+      record {
+        held = p.held;
+        later =
+            λ j l e h.
+            elim (cases_eq (s j) i) [
+              | inl q ↦ absurd (no' (subst (λ x. w ≤ d.load x) q h.1) (subst (λ x. x < n) (sym (v.there j l h.0) ∙ ap t q) l))
+              | inr ne ↦ let low = p.later j l e h in omega arith
+            ];
+      }
+
+  pub passed_more : (u : Mask) → w ≤ d.load i → t i < n → holds u (t i) ≡ false → ((k : ℕ) → (k ≡ t i → ⊥) → holds u k ≡ holds m k) → Passed n d s w u (i + 1)
+  passed_more u hi ti gone others =
+      record {
+        held =
+            λ j l e.
+            elim (cases_eq j (t i)) [
+              | inl q ↦ subst (λ x. (x < n) × (w ≤ d.load x)) (sym (ap s q ∙ v.back i li ti)) (li, hi)
+              | inr ne ↦ p.held j l (sym (others j ne) ∙ e)
+            ];
+        later =
+            λ j l e h.
+            elim (cases_eq j (t i)) [
+              | inl q ↦ absurd (both_ways (holds u (t i)) gone (ap (holds u) (sym q) ∙ e))
+              | inr ne ↦
+                  elim (cases_eq (s j) i) [
+                    | inl q ↦ absurd (ne (sym (v.there j l h.0) ∙ ap t q))
+                    | inr no' ↦ let low = p.later j l (sym (others j ne) ∙ e) h in omega arith
+                  ]
+            ];
+      }
+
+pub passed_all : (n : ℕ) (d : Graph) (s : Partners) (w : ℕ) (m : Mask) → Passed n d s w m n → Spare n d s w m
+passed_all n d s w m p = record { held = p.held; free = λ j l e h. omega (arith, p.later j l e h, h.0) }

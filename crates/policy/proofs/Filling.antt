@@ -1,17 +1,18 @@
 -- Joining one input after another.
-use Rattle.std.proofs.Common.{◌≡◌, ℕ, ◌+◌, ◌<◌, ◌≤◌, Bool, true, false, not, ◌&&◌, is_some, Some, None, Option, refl, ap, ◌∙◌, below_more}
+use Rattle.std.proofs.Common.{◌≡◌, ℕ, ◌+◌, ◌<◌, ◌≤◌, Bool, true, false, not, ◌&&◌, is_some, Some, None, Option, refl, ap, ◌∙◌, below_more, arith}
 use Rattle.std.proofs.lemmas.Bool.{both_ways, le-leb}
-use Rattle.crossbar.specs.Loads.{Counts, load}
+use Rattle.crossbar.specs.Loads.{Counts, load, Critical, largest_load, turned}
 use Rattle.crossbar.specs.Models.{input_at, load_at, output_at}
-use Rattle.crossbar.specs.declared.port.Port.TheVariants.{Output}
+use Rattle.crossbar.specs.declared.port.Port.TheVariants.{Output, Input}
+use Rattle.crossbar.proofs.Loads.{load_le}
 use Rattle.mask.specs.declared.Mask.{Mask}
-use Rattle.policy.specs.Graphs.{Graph, graph_of, InJoined, Keeps, Partners, Stuck, Weighs}
+use Rattle.policy.specs.Graphs.{Graph, graph_of, InJoined, Keeps, Partners, Stuck, Weighs, OutJoined}
 use Rattle.policy.specs.Kernel.{Alike, Ends, is_open, IsFull, IsStuck, joined_by, JoinedOne, ports_of}
 use Rattle.policy.specs.Paths.{Full, Grown, Mended}
 use Rattle.policy.specs.declared.mending.Mending.{Mending}
 use Rattle.policy.proofs.Alike.{back}
 use Rattle.policy.proofs.Hall.{best_possible, never_stuck}
-use Rattle.policy.proofs.Turning.{fits_keeps, partners_some}
+use Rattle.policy.proofs.Turning.{fits_keeps, partners_some, in_from_out, Inverse, out_from_in}
 
 -- ---- inputs that are open
 
@@ -40,6 +41,25 @@ pub record Filled (n : ℕ) (d : Graph) (s : Partners) (w : ℕ) (t : Partners) 
 
 pub grown_none : (n : ℕ) (d : Graph) (s : Partners) (w : ℕ) → Keeps n d s → Grown n d s w s
 grown_none n d s w ok = record { keeps = ok; outputs = λ j l h. h; inputs = λ i l _ h. h }
+
+-- before the first input
+pub filled_none : (n : ℕ) (d : Graph) (s : Partners) (w : ℕ) → Keeps n d s → Filled n d s w s 0
+filled_none n d s w ok = record { grown = grown_none n d s w ok; full = λ i l. absurd (omega arith) }
+
+-- an input of load w or more that is not joined
+pub not_full : (n : ℕ) (d : Graph) (s t : Partners) (w m : ℕ) → Inverse n s t → m < n → (w ≤ d.load m) × (n ≤ t m) → Full n d w s → ⊥
+not_full n d s t w m v l (heavy, free) full = omega (arith, free, out_from_in n s t v m l (full m l heavy))
+
+-- where every critical port of a side is joined, filling has nothing to do on it
+module _ (n : ℕ) (c : Counts) (s : Partners) (w : ℕ) (same : w ≡ largest_load n c) (busy : 0 < w) where
+  pub full_inputs : ((i : ℕ) → Critical n c (Input i) → InJoined n s i) → (d : Graph) → Weighs n d c → Full n d w s
+  full_inputs covers d weighs i l h =
+      covers i (record { within = l; most = omega (arith, weighs.loads i l, load_le n c (Input i) l); busy = omega arith })
+
+  pub full_outputs : ((j : ℕ) → Critical n c (Output j) → OutJoined n s j) → (e : Graph) → Weighs n e (turned c) → (t : Partners) → Inverse n s t → Full n e w t
+  full_outputs covers e weighs t v j l h =
+      in_from_out n s t v j l
+      (covers j (record { within = l; most = omega (arith, weighs.loads j l, load_le n c (Output j) l); busy = omega arith }))
 
 module _ (n : ℕ) (d : Graph) (s : Partners) (w : ℕ) (t : Partners) (m : ℕ) (f : Filled n d s w t m) where
   pub filled_skip : (w ≤ d.load m → InJoined n t m) → Filled n d s w t (m + 1)

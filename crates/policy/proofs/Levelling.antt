@@ -16,6 +16,16 @@ pub record Rising (n : ℕ) (d : Counts) (level : ℕ) (e : Counts) (a b : ℕ) 
   pub inputs : (k : ℕ) → k < a → load n e (Input k) ≡ level
   pub outputs : (k : ℕ) → k < b → load n e (Output k) ≡ level
 
+-- before the first step: nothing is added, and no port is done
+pub rising_none : (n : ℕ) (d : Counts) → Rising n d (largest_load n d) d 0 0
+rising_none n d =
+    record {
+      kept = λ i j. omega arith;
+      within = omega arith;
+      inputs = λ k l. absurd (omega arith);
+      outputs = λ k l. absurd (omega arith);
+    }
+
 module _ (n : ℕ) (d : Counts) (level : ℕ) (e : Counts) (a b : ℕ) (r : Rising n d level e a b) where
   pub rising_more : (m : ℕ) → a < n → b < n → load n e (Input a) + m ≤ level → load n e (Output b) + m ≤ level → Rising n d level (more m a b e) a b
   rising_more m la lb at_input at_output =

@@ -4,7 +4,7 @@ use Rattle.std.proofs.lemmas.Bool.{cases_eq}
 use Rattle.crossbar.specs.Joining.{Joins, moved}
 use Rattle.crossbar.proofs.Moving.{moved_here, moved_left, moved_other, moved_tell}
 use Rattle.policy.specs.Graphs.{Fits, Graph, InJoined, Keeps, Partners, partners}
-use Rattle.policy.specs.Paths.{Tree, Mended, Held, Holds}
+use Rattle.policy.specs.Paths.{Tree, Mended, Held, Holds, Ending}
 use Rattle.policy.proofs.Turning.{partners_none, partners_some, partners_tell}
 
 -- ---- one move
@@ -64,6 +64,22 @@ pub record Moving (n : ℕ) (d : Graph) (s : Partners) (w : ℕ) (ins outs : ℕ
   pub inputs : (i : ℕ) → i < n → w ≤ d.load i → InJoined n s i → (a : ℕ) × (a < n) × ((a ≡ j → ⊥) × (g a ≡ i))
 
 module _ (n : ℕ) (d : Graph) (s : Partners) (w : ℕ) (ins outs par : ℕ → ℕ) (c : ℕ) (tree : Tree n d s ins outs par c) where
+  -- before the first move
+  pub moving_none : (at output : ℕ) → Ending n d s w ins outs c at output → Moving n d s w ins outs at output s
+  moving_none at output e =
+      record {
+        within = e.within;
+        packet = e.packet;
+        unjoined = λ a l q. tree.unjoined a l q;
+        rest = λ k l. tree.next k (omega (arith, e.low));
+        fresh = λ k l. e.fresh k (omega (arith, e.low));
+        outputs = λ a l _ h. h;
+        inputs = λ i l h (a, m, q). (a, m, (λ r. light i l h (ap s (sym r) ∙ q), q));
+      }
+    where
+      light : (i : ℕ) → i < n → w ≤ d.load i → s output ≡ i → ⊥
+      light i l h q = let lt : d.load (s output) < w = e.spare (omega arith) in omega (arith, ap d.load q)
+
   module _ (p j : ℕ) (g g' : Partners) (m : Moving n d s w ins outs p j g) where
     -- the last move
     module _ (z : p ≡ 0) (puts : Puts n g j (ins 0) g') where
@@ -154,6 +170,35 @@ pub record Holding (n : ℕ) (d : Graph) (s : Partners) (w end j : ℕ) (g : Par
   pub back : (a : ℕ) → a < n → (a ≡ j → ⊥) → (a ≡ end → ⊥) → Held n d g w a → Held n d s w a
 
 module _ (n : ℕ) (d : Graph) (s : Partners) (w end : ℕ) where
+  -- before the first move, and before the move that follows one that held `end`
+  pub holding_none : Holding n d s w end end s
+  holding_none =
+      record { here = λ ne. absurd (ne refl); ended = λ ne. absurd (ne refl); forth = λ a _ _ _ h. h; back = λ a _ _ _ h. h }
+
+  pub holding_next : (j : ℕ) (g : Partners) → Held n d s w j → Holds n d s w end g → Holding n d s w end j g
+  holding_next j g here h =
+      record { here = λ _. here; ended = λ _. h.ended; forth = λ a l _ ne. h.forth a l ne; back = λ a l _ ne. h.back a l ne }
+
+  -- an input put at j, where every other output stays as it was
+  pub holding_put : (j i : ℕ) (g g' : Partners) → Holding n d s w end j g → g' j ≡ i → ((a : ℕ) → (a ≡ j → ⊥) → g' a ≡ g a) → i < n → w ≤ d.load i → Holds n d s w end g'
+  holding_put j i g g' m here other il ih =
+      record {
+        ended = elim (cases_eq end j) [ inl e ↦ put end e | inr ne ↦ carry (g end) (g' end) (other end ne) (m.ended ne) ];
+        forth = λ a l ne h. elim (cases_eq a j) [ inl e ↦ put a e | inr no' ↦ carry (g a) (g' a) (other a no') (m.forth a l no' ne h) ];
+        back =
+            λ a l ne h.
+            elim (cases_eq a j) [
+              | inl e ↦ subst (λ x. Held n d s w x) (sym e) (m.here (λ q. ne (e ∙ q)))
+              | inr no' ↦ m.back a l no' ne (carry (g' a) (g a) (sym (other a no')) h)
+            ];
+      }
+    where
+      carry : (x y : ℕ) → y ≡ x → (x < n) × (w ≤ d.load x) → (y < n) × (w ≤ d.load y)
+      carry x y e h = subst (λ v. (v < n) × (w ≤ d.load v)) (sym e) h
+
+      put : (a : ℕ) → a ≡ j → Held n d g' w a
+      put a e = carry i (g' a) (ap g' e ∙ here) (il, ih)
+
   -- a move to j, with the output x put by, or none where x is n
   module _ (le : end < n) (j i x : ℕ) (g g' : Partners) (m : Holding n d s w end j g) (here : g' j ≡ i)
       (other : (a : ℕ) → a < n → (a ≡ j → ⊥) → (a ≡ x → ⊥) → g' a ≡ g a) (il : i < n) (ih : w ≤ d.load i) where

@@ -1,13 +1,13 @@
 -- A search in its course: what it has reached, and one output more.
-use Rattle.std.proofs.Common.{◌≡◌, ℕ, ◌+◌, ◌-◌, ◌<◌, ◌≤◌, Bool, true, false, cond, not, ◌&&◌, sym, ap, ◌∙◌, subst, inl, inr, arith, below_more}
-use Rattle.std.proofs.lemmas.Bool.{cases_eq, cases_lt, both_ways, and_parts, not_from_true, not_from_false}
+use Rattle.std.proofs.Common.{◌≡◌, ℕ, ◌+◌, ◌-◌, ◌<◌, ◌≤◌, Bool, true, false, cond, not, ◌&&◌, sym, ap, ◌∙◌, subst, inl, inr, arith, below_more, ltb}
+use Rattle.std.proofs.lemmas.Bool.{cases_eq, cases_lt, both_ways, and_parts, not_from_true, not_from_false, cases_Bool, and_from, ltb-true, lt-ltb, not-true}
 use Rattle.mask.specs.Bits.{holds}
 use Rattle.crossbar.proofs.Sums.{total_le}
 use Rattle.mask.specs.declared.Mask.{Mask}
 use Rattle.policy.specs.Picked.{count}
 use Rattle.policy.proofs.Counting.{total_lt, total_ones}
 use Rattle.policy.specs.Graphs.{Graph, Partners, Stuck}
-use Rattle.policy.specs.Paths.{Tree, Held}
+use Rattle.policy.specs.Paths.{Tree, Held, Ending}
 use Rattle.policy.specs.Searching.{Course, Reach, Row, seen}
 
 -- g is f with x at c, and what f has below c
@@ -141,6 +141,33 @@ module _ (n : ℕ) (d : Graph) (s : Partners) (w : ℕ) (ins outs par : ℕ → 
   pub course_end : p ≡ c + 1 → Stuck n d s w (ins 0) (seen unseen)
   course_end e = stuck n d s w _ _ _ c k.tree (seen unseen) p k.reach e
 
+  -- one input more is done
+  pub course_done : ((j : ℕ) → j < n → d.link (ins p) j ≡ true → seen unseen j ≡ true) → Course n d s w ins outs par unseen c (p + 1)
+  course_done h =
+      record {
+        inside = k.inside;
+        counted = k.counted;
+        tree = k.tree;
+        reach =
+            record {
+              seen = k.reach.seen;
+              listed = k.reach.listed;
+              heavy = k.reach.heavy;
+              done = below_more (λ a. (j : ℕ) → j < n → d.link (ins a) j ≡ true → seen unseen j ≡ true) p k.reach.done h;
+            };
+      }
+
+  -- an output that ends a path
+  pub course_found : p ≤ c → (j : ℕ) → holds unseen j ≡ true → d.link (ins p) j ≡ true → (Held n d s w j → ⊥) → Ending n d s w ins outs c p j
+  course_found low j new o free =
+      record {
+        low = low;
+        within = k.inside j new;
+        packet = o;
+        fresh = λ a m e. both_ways (seen unseen j) (not_from_true (holds unseen j) new) (ap (seen unseen) (sym e) ∙ k.reach.seen a m);
+        spare = λ l. elim (cases_lt (d.load (s j)) w) [ inl h ↦ h | inr h ↦ absurd (free (l, h)) ];
+      }
+
   -- one output more
   module _ (j : ℕ) (v : Mask) (low : p ≤ c) (new : holds unseen j ≡ true) (here : holds v j ≡ false) (others : (a : ℕ) → (a ≡ j → ⊥) → holds v a ≡ holds unseen a)
       (ins' outs' par' : ℕ → ℕ) (pi : Pushes ins (c + 1) (s j) ins') (po : Pushes outs c j outs') (pp : Pushes par c p par') where
@@ -159,6 +186,16 @@ module _ (n : ℕ) (d : Graph) (s : Partners) (w : ℕ) (ins outs par : ℕ → 
         }
 
 module _ (n : ℕ) (d : Graph) (s : Partners) (w : ℕ) (row : Mask) (ins outs par : ℕ → ℕ) (unseen : Mask) (c p : ℕ) (r : Row n d s w row ins outs par unseen c p) where
+  -- no output of the row is unseen, so that its input is done
+  pub row_end : ((j : ℕ) → (holds row j && holds unseen j) ≡ false) → Course n d s w ins outs par unseen c (p + 1)
+  row_end none =
+      course_done n d s w ins outs par unseen c p r.course
+      (λ j l o.
+      elim (cases_Bool (holds unseen j)) [
+        | inl h ↦ absurd (both_ways _ (none j) (and_from (holds row j) (holds unseen j) (r.packets j l ∙ o) h))
+        | inr h ↦ not_from_false (holds unseen j) h
+      ])
+
   module _ (j : ℕ) (v : Mask) (both : (holds row j && holds unseen j) ≡ true) (here : holds v j ≡ false) (others : (a : ℕ) → (a ≡ j → ⊥) → holds v a ≡ holds unseen a) where
     new : holds unseen j ≡ true
     new = (and_parts (holds row j) (holds unseen j) both).1
@@ -180,6 +217,32 @@ module _ (n : ℕ) (d : Graph) (s : Partners) (w : ℕ) (row : Mask) (ins outs p
           packets = λ a m. r.packets a m ∙ ap (λ x. d.link x a) (sym (pi.1 p (omega (arith, r.low))));
           held = λ a h m. elim (cases_eq a j) [ inl e ↦ absurd (both_ways (holds v j) here (ap (holds v) (sym e) ∙ h)) | inr ne ↦ r.held a (sym (others a ne) ∙ h) m ];
         }
+
+-- a search before its first step
+pub course_none : (n : ℕ) (d : Graph) (s : Partners) (w : ℕ) (ins outs par : ℕ → ℕ) (unseen : Mask) → ((k : ℕ) → holds unseen k ≡ ltb k n) → ins 0 < n → w ≤ d.load (ins 0) → ((j : ℕ) → j < n → s j ≡ ins 0 → ⊥) → Course n d s w ins outs par unseen 0 0
+course_none n d s w ins outs par unseen every root heavy free =
+    record {
+      inside = λ k h. ltb-true k n (sym (every k) ∙ h);
+      counted = omega arith;
+      tree =
+          record {
+            root = root;
+            unjoined = free;
+            within = λ k l. omega arith;
+            joined = λ k l. omega arith;
+            next = λ k l. absurd (omega arith);
+            apart = λ a b l m. omega arith;
+            earlier = λ k l. omega arith;
+            packet = λ k l. absurd (omega arith);
+          };
+      reach =
+          record {
+            seen = λ k l. absurd (omega arith);
+            listed = λ j l h. absurd (both_ways (holds unseen j) (not-true (holds unseen j) h) (every j ∙ lt-ltb j n l));
+            heavy = λ k l. let z : k ≡ 0 = omega arith in subst (λ x. w ≤ d.load (ins x)) (sym z) heavy;
+            done = λ k l. absurd (omega arith);
+          };
+    }
 
 -- a set that lacks a number below n has fewer than n
 pub count_short : (n : ℕ) (q : ℕ → Bool) (j : ℕ) → j < n → q j ≡ false → count n q < n

@@ -1,8 +1,8 @@
 -- Filled from both sides, and what the setting is then.
 use Rattle.std.proofs.Common.{◌≡◌, ℕ, ◌<◌, ◌≤◌, Bool, true, ltb, Some, sym, refl, ap, ◌∙◌, subst, arith}
-use Rattle.std.proofs.lemmas.Bool.{ltb-true}
+use Rattle.std.proofs.lemmas.Bool.{ltb-true, lt-ltb}
 use Rattle.crossbar.specs.Clearing.{Lawful}
-use Rattle.crossbar.specs.Joining.{Joined, Joins}
+use Rattle.crossbar.specs.Joining.{Joined, Joins, IsSetting}
 use Rattle.crossbar.specs.Loads.{Counts, Critical, largest_load, load, turned}
 use Rattle.crossbar.specs.Models.{input_at, links_at, load_at, output_at}
 use Rattle.crossbar.specs.declared.port.Port.{Port}
@@ -12,7 +12,7 @@ use Rattle.crossbar.specs.declared.setting.Setting.{Setting}
 use Rattle.crossbar.specs.declared.side.Side.{Side}
 use Rattle.crossbar.proofs.Loads.{load_le}
 use Rattle.mask.specs.Bits.{holds}
-use Rattle.policy.specs.Graphs.{Fits, graph_of, Graph, InJoined, OutJoined, partners, Turned, Weighs}
+use Rattle.policy.specs.Graphs.{Fits, graph_of, Graph, InJoined, OutJoined, partners, Turned, Weighs, Keeps}
 use Rattle.policy.specs.Kernel.{Alike, GrownFrom, IsFull, joined_by, ports_of}
 use Rattle.policy.specs.Mending.{pair_count}
 use Rattle.policy.specs.Paths.{Full, Grown}
@@ -20,7 +20,7 @@ use Rattle.policy.specs.Settled.{Matched}
 use Rattle.policy.specs.declared.mending.Mending.{Mending}
 use Rattle.policy.proofs.PairCount.{pair_count_partners}
 use Rattle.policy.proofs.Partnering.{partnered, partnered_inverse, partnered_le}
-use Rattle.policy.proofs.Turning.{fits_turned, in_from_out, inverse_of, out_from_in, partners_some, partners_tell, turned_back}
+use Rattle.policy.proofs.Turning.{fits_turned, in_from_out, inverse_of, out_from_in, partners_some, partners_tell, turned_back, fits_keeps}
 
 -- ---- a setting with packets
 
@@ -31,6 +31,26 @@ module _ (n : ℕ) (d : Graph) (c : Counts) (weighs : Weighs n d c) (s : Joins) 
         setting = f.setting;
         packet = λ i j e. let (l, h) = f.setting.inside i j e in ltb-true 0 (c i j) (sym (weighs.links i j l h) ∙ f.packet i j e);
       }
+
+  -- and back; as partners a free output is 16, which is no port where there are sixteen or fewer
+  pub fits_from_matched : Matched n c s → Fits n d s
+  fits_from_matched m =
+      record {
+        setting = m.setting;
+        packet = λ i j e. let (l, h) = m.setting.inside i j e in weighs.links i j l h ∙ lt-ltb 0 (c i j) (m.packet i j e);
+      }
+
+  pub keeps_from_matched : n ≤ 16 → Matched n c s → Keeps n d (partners s)
+  keeps_from_matched few m = fits_keeps n few d s (fits_from_matched m)
+
+-- a setting of n ports is one of more
+pub wider : (n m : ℕ) (s : Joins) → n ≤ m → IsSetting n s → IsSetting m s
+wider n m s le rule =
+    record { inside = λ i j e. let (a, b) = rule.inside i j e in (omega arith, omega arith); once = rule.once }
+
+-- no port is critical where nothing waits, so that whatever is joined joins all that are
+pub covers_nothing : (n : ℕ) (c : Counts) → largest_load n c ≡ 0 → (p : Port) → Critical n c p → ⊥
+covers_nothing n c z p critical = omega (arith, critical.busy)
 
 -- the graphs of a demand's two sides are each other seen from the other side
 pub turned_sides : (n : ℕ) (d e : Graph) (c : Counts) → Weighs n d c → Weighs n e (turned c) → Turned n d e

@@ -71,5 +71,22 @@ module _ (n : ℕ) (s t : Partners) (v : Inverse n s t) where
   pub in_from_out : (j : ℕ) → j < n → OutJoined n s j → InJoined n t j
   in_from_out j l h = (s j, h, v.there j l h)
 
+  -- with a packet for each pair, so has the inverse, where the other side has the same packets
+  pub inverse_keeps : (d e : Graph) → Turned n d e → Keeps n d s → Keeps n e t
+  inverse_keeps d e turned ok =
+      record {
+        once = λ a b la lb h q. sym (v.back a la h) ∙ ap s q ∙ v.back b lb (omega arith);
+        packet =
+            λ a la h.
+            turned a (t a) la h ∙ ap (λ x. d.link x (t a)) (sym (v.back a la h)) ∙ ok.packet (t a) h (omega (arith, v.back a la h));
+      }
+
+pub inverse_back : (n : ℕ) (s t : Partners) → Inverse n s t → Inverse n t s
+inverse_back n s t v = record { there = v.back; back = v.there }
+
+-- partners that join nothing
+pub empty_inverse : (n : ℕ) (s : Partners) → ((j : ℕ) → j < n → n ≤ s j) → Inverse n s s
+empty_inverse n s none = record { there = λ j l h. absurd (omega (arith, none j l)); back = λ i l h. absurd (omega (arith, none i l)) }
+
 pub turned_back : (n : ℕ) (d e : Graph) → Turned n d e → Turned n e d
 turned_back n d e h = λ i j l m. sym (h j i m l)
