@@ -1,5 +1,5 @@
 //! Why a call was refused, and where.
-ghost use Rattle.reply.specs.Answers.{answer, code, refused};
+ghost use Rattle.reply.specs.Answers.{Reply, answer, code, refused};
 ghost use Rattle.std.specs.Prelude.{◌≡◌, Err};
 
 use crate::place::Place;
@@ -25,9 +25,10 @@ impl Refusal {
         }
     }
 
-    /// The 32 bits of the refusal: layer 4, number 8, place 20, most significant first.
+    /// The 32 bits of the refusal: layer 4, number 8, place 20, most significant first. No other reply has them.
     pub fn code(self) -> u32
-        ensures { result ≡ code (answer (Err self)) }
+        ensures value { result ≡ code (answer (Err self)) }
+        ensures alone { (other : Reply) → code (answer other) ≡ result → answer other ≡ answer (Err self) }
     {
         let layer = u32::from(self.reason.layer() as u8);
         let number = u32::from(self.reason.number());
