@@ -73,7 +73,7 @@ impl Mending<'_> {
         ensures alike { Alike self.old self.new }
         ensures joined { JoinedOne self.old start self.new result }
     {
-        // Most paths end where they begin.
+        // Where an output that ends a path is one step away, no search is needed.
         let trail = Trail::new(start, self.side.ports);
         let near = self.side.links(start).meet(trail.unseen);
         if let Some(output) = near.meet(ends).lowest() {
